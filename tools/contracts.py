@@ -65,7 +65,7 @@ def contracts(reader):
         part = ['### `%s`' % crate, head_of(crate, 'lib')]
         rows = []
         for path, item in surface.calls:
-            signature = re.sub(r"^(?:pub |const |extern .C. )*fn |(?<=[(\s])mut (?=\w+:)|<'\w+>(?=\()|'\w+ (?=\w)", '', item.signature).replace('alloc: Global', 'alloc')
+            signature = re.sub(r"^(?:pub |final |const |extern .C. )*fn |(?<=[(\s])mut (?=\w+:)|<'\w+>(?=\()|'\w+ (?=\w)", '', item.signature).replace('alloc: Global', 'alloc')
             names = {kind: [n for k, n, _ in item.clauses if k == kind] for kind in ('requires', 'ensures')}
             shown = [ticks(n for n in names[k] if n) or 'one clause' * bool(names[k]) for k in ('requires', 'ensures')]
             rows.append(['`%s%s`' % (path, signature), sentence(item.doc), *shown, place(item)])

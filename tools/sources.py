@@ -124,7 +124,7 @@ def specs():
 
 # ---- src
 
-HEAD = re.compile(r"^(\s*)(pub(?:\([^)]*\))? )?(?:const |unsafe |extern .C. )*(fn|struct|enum|trait|type|const|static|impl|mod|use)\b[ <]*(.*)$")
+HEAD = re.compile(r"^(\s*)(pub(?:\([^)]*\))? )?(?:const |unsafe |final |extern .C. )*(fn|struct|enum|trait|type|const|static|impl|mod|use)\b[ <]*(.*)$")
 
 
 CLAUSE = re.compile(r"\s*(requires|ensures)\*? *(%s)? *\{" % WORD)

@@ -1,5 +1,6 @@
 //! What can be wrong with two texts, and the numbers and the words by which it is reported.
 
+use common::{Message, Reported};
 use lexer::LexRefusalKind;
 use parser::ParseRefusalKind;
 use principals::HierarchyRefusalKind;
@@ -36,39 +37,21 @@ pub enum RefusalKind {
     FlowNotAllowed,
 }
 
-impl RefusalKind {
-    ghost use Rattle.acceptance.specs.RefusalKinds.{refusal_kind_number, refusal_kind_words};
-    ghost use Rattle.std.specs.Prelude.{◌≡◌};
+impl Reported for RefusalKind {
+    ghost use Rattle.acceptance.specs.RefusalKinds.{refusal_message};
 
-    /// The number that it is reported by.
-    pub fn number(self) -> u32
-        ensures { result ≡ refusal_kind_number self }
-    {
-        match self {
-            RefusalKind::TextTooLong => HierarchyRefusalKind::TooLong.number(),
-            RefusalKind::NotUtf8 => 100,
-            RefusalKind::Hierarchy(kind) => kind.number(),
-            RefusalKind::Lex(kind) => kind.number(),
-            RefusalKind::Parse(kind) => kind.number(),
-            RefusalKind::Name(kind) => kind.number(),
-            RefusalKind::End(kind) => kind.number(),
-            RefusalKind::FlowNotAllowed => 601,
-        }
-    }
+    ghost contents = { refusal_message };
 
-    /// The words that it is reported by.
-    pub fn words(self) -> &'static str
-        ensures { result.now ≡ refusal_kind_words self }
-    {
+    fn message(&self) -> Message {
         match self {
-            RefusalKind::TextTooLong => HierarchyRefusalKind::TooLong.words(),
-            RefusalKind::NotUtf8 => "not UTF-8",
-            RefusalKind::Hierarchy(kind) => kind.words(),
-            RefusalKind::Lex(kind) => kind.words(),
-            RefusalKind::Parse(kind) => kind.words(),
-            RefusalKind::Name(kind) => kind.words(),
-            RefusalKind::End(kind) => kind.words(),
-            RefusalKind::FlowNotAllowed => "flow not allowed",
+            RefusalKind::TextTooLong => HierarchyRefusalKind::TooLong.message(),
+            RefusalKind::NotUtf8 => Message::new(100, "not UTF-8"),
+            RefusalKind::Hierarchy(kind) => kind.message(),
+            RefusalKind::Lex(kind) => kind.message(),
+            RefusalKind::Parse(kind) => kind.message(),
+            RefusalKind::Name(kind) => kind.message(),
+            RefusalKind::End(kind) => kind.message(),
+            RefusalKind::FlowNotAllowed => Message::new(601, "flow not allowed"),
         }
     }
 }

@@ -5,7 +5,11 @@ use Rattle.std.specs.List.{AllByRecursion}
 use Rattle.std.proofs.lemmas.Bool.{lt-ltb, eq-eqb}
 use Rattle.std.proofs.lemmas.List.{append-nil}
 use Rattle.modules.specs.declared.fault.FormatRefusalKind.TheVariants.{BadValue}
-use Rattle.modules.specs.ByteFormat.{number_at, stop_at, Coding, ByteFormat, Byte, Number, Text, Nothing, Marked, Checked, Then, Counted, Code, Named, spelled_each, spelled_instruction, spelled_code, spelled, FitEach, IsCoded, Fits, ◌>>=◌, Read, bytes_at, each_at, meant, operand_at, instruction_in, code_at, read}
+use Rattle.modules.specs.Opcodes.{Coding, code_bytes, instructions}
+use Rattle.modules.specs.declared.instruction.Instruction.{Instruction}
+use Rattle.modules.specs.declared.version.Version.{Version}
+use Rattle.modules.specs.ByteFormat.{number_at, stop_at, ByteFormat, Byte, Number, Text, Nothing, Marked, Checked, Then, Counted, Code, Named, spelled_each, spelled_instruction, spelled_code, spelled, FitEach, IsCoded, Fits, ◌>>=◌, Read, bytes_at, each_at, meant, operand_at, instruction_in, code_at, read}
+use Rattle.modules.proofs.Spelling.{all_coded, code-bytes}
 use Rattle.bytecode.proofs.Steps.{bytes_again, number_again}
 use Rattle.bytecode.proofs.Coherent.{Coherent}
 
@@ -52,6 +56,19 @@ code_again {A} coding (suc most) before (x ∷ xs) rest coded inside =
     ∙ code_again coding most (before ++ x ∷ []) xs rest coded.1 (omega (arith, size, inside))
     ∙ ap (λ l. Ok (l, rest)) (append_assoc before (x ∷ []) xs)
 
+-- the bytes of code are those that readers of its version take
+version_again : (version : Version) (code : List Instruction) (rest : List ℕ) → Fits (Code version) code → read (Code version) (spelled (Code version) code ++ rest) ≡ Ok (code, rest)
+version_again version code rest fits =
+    let coding = instructions version in
+    let bytes = code_bytes code in
+    let read_code = λ (size : ℕ × List ℕ). code_at coding size.0 size.0 [] size.1 in
+    let goes = λ (spelling : List ℕ). code_at coding (length bytes) (length spelling) [] (spelling ++ rest) in
+    let same = code-bytes version code in
+    ap (λ (w : List ℕ). read (Code version) w) (append_assoc (to_be_bytes w32 (length bytes)) bytes rest)
+    ∙ ap (λ (r : Read ℕ). r >>= read_code) (number_again (length bytes) (bytes ++ rest) fits.0)
+    ∙ ap goes (sym same)
+    ∙ code_again coding (length bytes) [] code rest (all_coded version code fits.1) (omega (arith, ap length same))
+
 pub again : {A : Type 0} (form : ByteFormat A) → Coherent form → IsReadAgain form
 again Byte coherent x rest fits = refl
 again Number coherent x rest fits = number_again x rest fits
@@ -88,11 +105,7 @@ again (Counted {A} test one) coherent x rest fits =
     ap (λ (r : Read ℕ). r >>= λ count. cond (test count.0) (each count.0 count.1) fault) number
     ∙ ap (λ (b : Bool). cond b (each (length x) (elements ++ rest)) fault) fits.1
     ∙ each_again one (λ before. again (one before) (coherent before)) [] x rest fits.2
-again (Code {A} coding) coherent x rest fits =
-    let bytes = spelled_code coding x in
-    ap (λ (w : List ℕ). read (Code coding) w) (append_assoc (to_be_bytes w32 (length bytes)) bytes rest)
-    ∙ ap (λ (r : Read ℕ). r >>= λ size. code_at coding size.0 size.0 [] size.1) (number_again (length bytes) (bytes ++ rest) fits.0)
-    ∙ code_again coding (length bytes) [] x rest fits.1 (omega arith)
+again (Code version) coherent x rest fits = version_again version x rest fits
 again (Named {A} {B} make fields form) coherent x rest fits =
     ap (λ (r : Read A). r >>= λ found. Ok (make found.0, found.1)) (again form coherent.0 (fields x) rest fits.0)
     ∙ ap (λ (y : B). Ok (y, rest)) fits.1

@@ -1,7 +1,8 @@
 -- What the two laws need of a format: fields are what a value was made of, and an instruction that was read has the opcode and
 -- the operand that it was read from.
 use Rattle.std.proofs.Common.{◌≡◌, ℕ, ◌^◌, ◌<◌, List, length, Some}
-use Rattle.modules.specs.ByteFormat.{Coding, ByteFormat, Byte, Number, Text, Nothing, Marked, Checked, Then, Counted, Code, Named, Fits}
+use Rattle.modules.specs.Opcodes.{Coding, instructions}
+use Rattle.modules.specs.ByteFormat.{ByteFormat, Byte, Number, Text, Nothing, Marked, Checked, Then, Counted, Code, Named, Fits}
 use Rattle.bytecode.proofs.Steps.{IsBytes}
 
 pub record IsLawful {A : Type 0} (coding : Coding A) : Type 0 where
@@ -17,5 +18,5 @@ Coherent (Marked kind n form) = (n < 2 ^ 32) × Coherent form
 Coherent (Checked kind test form) = Coherent form
 Coherent (Then {A} first second) = Coherent first × ((a : A) → Coherent (second a))
 Coherent (Counted {A} test one) = (before : List A) → Coherent (one before)
-Coherent (Code coding) = IsLawful coding
+Coherent (Code version) = IsLawful (instructions version)
 Coherent (Named {A} make fields form) = Coherent form × ((a : A) → Fits form a → fields (make a) ≡ a)

@@ -12,6 +12,7 @@ use Rattle.std.proofs.lemmas.List.{append-nil, get_or_push, get_or_append_left}
 use Rattle.std.proofs.lemmas.List.Elements.{All-push, All-from_recursion}
 use Rattle.std.proofs.lemmas.List.Quantifiers.{all_pairs_push}
 use Rattle.std.proofs.lemmas.Map.Keys.{sorted_from_all_adjacent, IsStrictlyIncreasing-from_sorted}
+use Rattle.std.specs.Option.{option_map_or}
 use Rattle.std.proofs.lemmas.Option.{slice_get-get_or}
 use Rattle.std.proofs.lemmas.Slice.Eq.{bytes_eq-Decides}
 use Rattle.std.proofs.lemmas.Str.{IsUtf8-from_is_utf8}
@@ -29,7 +30,7 @@ use Rattle.modules.specs.ByteFormat.{Fits, FitEach, Counted, read}
 use Rattle.bytecode.proofs.Steps.{IsBytes}
 use Rattle.bytecode.proofs.Taken.{taken}
 use Rattle.bytecode.proofs.Lawful.{number_below-coherent, principals-coherent, pair_after-coherent}
-use Rattle.modules.specs.Format.{any, hierarchy, is_less, is_above_last, is_above, is_among, name_after, number_below, principals, pair_after, reader_after, policy_after, label}
+use Rattle.modules.specs.Format.{any, hierarchy, is_less, is_above, is_among, name_after, number_below, principals, pair_after, reader_after, policy_after, label}
 
 -- ---- along a list, each element after those before it
 
@@ -63,7 +64,7 @@ Ascends {A} cmp xs = (k : ℕ) (d : A) → k + 1 < length xs → cmp (get_or xs 
 above_last : {A : Type 0} (cmp : A → A → Ordering) (before : List A) (x d : A) (k : ℕ) → is_above cmp before x ≡ true → k + 1 ≡ length before → cmp (get_or before k d) x ≡ Less
 above_last {A} cmp before x d k h last =
     let here : slice_get before (length before - 1) ≡ Some (get_or before k d) = ap (slice_get before) (omega (arith, last)) ∙ slice_get-get_or before k d (omega (arith, last)) in
-    less _ (ap (λ (o : Option A). is_above_last cmp o x) (sym here) ∙ h)
+    less _ (ap (λ (o : Option A). option_map_or (λ y. is_less (cmp y x)) o true) (sym here) ∙ h)
 
 ascends_more : {A : Type 0} (cmp : A → A → Ordering) (before : List A) (x : A) → Ascends cmp before → is_above cmp before x ≡ true → Ascends cmp (before ++ x ∷ [])
 ascends_more cmp before x so_far h k d lt =

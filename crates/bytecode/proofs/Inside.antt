@@ -4,7 +4,8 @@ use Rattle.std.proofs.lemmas.List.{length-drop}
 use Rattle.std.specs.Int.{w32, from_be_bytes}
 use Rattle.modules.specs.declared.fault.ReadRefusal.{ReadRefusal}
 use Rattle.modules.specs.declared.fault.FormatRefusalKind.TheVariants.{BadValue, Trailing}
-use Rattle.modules.specs.ByteFormat.{Coding, ByteFormat, Byte, Number, Text, Nothing, Marked, Checked, Then, Counted, Code, Named, stop_at, short, ◌>>=◌, Read, number_at, bytes_at, each_at, meant, operand_at, instruction_in, code_at, spelled_instruction, read, read_all}
+use Rattle.modules.specs.Opcodes.{Coding, instructions}
+use Rattle.modules.specs.ByteFormat.{ByteFormat, Byte, Number, Text, Nothing, Marked, Checked, Then, Counted, Code, Named, stop_at, short, ◌>>=◌, Read, number_at, bytes_at, each_at, meant, operand_at, instruction_in, code_at, spelled_instruction, read, read_all}
 
 -- at most this many bytes are left, after the value or at the refusal
 abbrev IsInside : {A : Type 0} → ℕ → Read A → Type 0
@@ -83,7 +84,7 @@ inside (Counted test one) bytes =
     bound (length bytes) (number_at bytes) (λ count. cond (test count.0) (each_at (λ before rest. read (one before) rest) count.0 [] count.1) (Err (stop_at BadValue bytes))) (number_inside bytes)
     (λ count le. tested (length bytes) (test count.0) (each_at (λ before rest. read (one before) rest) count.0 [] count.1) (stop_at BadValue bytes)
     (fewer (length count.1) (length bytes) (each_at (λ before rest. read (one before) rest) count.0 [] count.1) le (each_inside (λ before rest. read (one before) rest) (λ before rest. inside (one before) rest) count.0 [] count.1)) (omega arith))
-inside (Code coding) bytes = next_at (length bytes) (number_at bytes) (λ size. code_at coding size.0 size.0 [] size.1) (number_inside bytes) (λ size. code_inside coding size.0 size.0 [] size.1)
+inside (Code version) bytes = next_at (length bytes) (number_at bytes) (λ size. code_at (instructions version) size.0 size.0 [] size.1) (number_inside bytes) (λ size. code_inside (instructions version) size.0 size.0 [] size.1)
 inside (Named make fields form) bytes = bound (length bytes) (read form bytes) (λ found. Ok (make found.0, found.1)) (inside form bytes) (λ found le. le)
 
 abbrev answer : {A : Type 0} → Bool → A → ReadRefusal → Result A ReadRefusal

@@ -1,7 +1,7 @@
 -- The module file is coherent: its two laws hold.
 use Rattle.std.proofs.Common.{map, ◌≡◌, ℕ, zero, suc, ◌+◌, ◌^◌, ◌<◌, Bool, true, false, ◌||◌, cond, ltb, eqb, List, [], ◌∷◌, length, Option, Some, None, refl, sym, ap, subst, ◌∙◌, arith, inl, inr, ◌⊎◌, lit<}
 use Rattle.std.specs.Int.{w32, cast_signed, cast_unsigned, from_be_bytes, to_be_bytes}
-use Rattle.std.specs.List.{find, AllByRecursion}
+use Rattle.std.specs.List.{AllByRecursion}
 use Rattle.std.proofs.lemmas.Bool.{ltb-true, eqb-true}
 use Rattle.std.proofs.lemmas.Int.{of_z-to_z}
 use Rattle.std.proofs.lemmas.Nat.{be_bytes_4}
@@ -22,23 +22,11 @@ use Rattle.modules.specs.declared.opcode.Operand.{Operand}
 use Rattle.modules.specs.declared.opcode.Operand.TheVariants.{Absent, Int, Boolean, Number as Numbered}
 use Rattle.modules.specs.Opcodes.{entry_of, opcode_of, operand_of, operand_width, numbered, operators, plain, with_opcode, instruction_of, examples, has_instruction, width_in, width_after, instructions}
 use Rattle.modules.specs.Format.{name_after, number_below, principals, pair_after, hierarchy, exceptions, direction_of, direction_byte, direction, reader_after, policy_after, label, channel_after, channels, kind_of, kind_byte, variable_kind, of_scalar, first_value, global_of, global_fields, global_after, globals, slot_fields, slot_after, slots, returned_of, returned_byte, returned, handler, handlers, procedure, procedures, main, declared, program, contents, version_number, version, module_file}
+use Rattle.modules.proofs.Spelling.{found-has}
 use Rattle.bytecode.proofs.Steps.{IsBytes}
 use Rattle.bytecode.proofs.Coherent.{IsLawful, Coherent}
 
 -- ---- instructions
-
-chosen : {X : Type 0} (b : Bool) (y x : X) (other : Option X) → cond b (Some y) other ≡ Some x → ((b ≡ true) × (y ≡ x)) ⊎ (other ≡ Some x)
-chosen true y x other e = inl (refl, cc)
-chosen false y x other e = inr e
-
--- what was found passes the test, and has what all have
-found : {X : Type 0} (p : X → Bool) (P : X → Type 0) (xs : List X) (x : X) → AllByRecursion P xs → find p xs ≡ Some x → (p x ≡ true) × P x
-found p P [] x all e = absurd cc
-found {X} p P (y ∷ ys) x all e =
-    elim (chosen (p y) y x (find p ys) e) [
-      | inl here ↦ subst (λ (z : X). (p z ≡ true) × P z) here.1 (here.0, all.0)
-      | inr later ↦ found p P ys x all.1 later
-    ]
 
 -- an instruction has the opcode and the operand
 abbrev Has : ℕ → List ℕ → Instruction → Type 0
@@ -46,7 +34,7 @@ Has byte operand x = (opcode_of x ≡ byte) × (operand_of x ≡ operand)
 
 with_operand : (byte : ℕ) (operand : List ℕ) (all : List Instruction) (x : Instruction) → AllByRecursion (λ y. operand_of y ≡ operand) all → with_opcode byte all ≡ Some x → Has byte operand x
 with_operand byte operand all x have e =
-    let f = found (λ y. eqb (opcode_of y) byte) (λ y. operand_of y ≡ operand) all x have e in
+    let f = found-has (λ y. eqb (opcode_of y) byte) (λ y. operand_of y ≡ operand) all x have e in
     (eqb-true _ _ f.0, f.1)
 
 flagged_has : (byte b : ℕ) (x : Instruction) (zero_is one_is : Bool) → eqb b 0 ≡ zero_is → eqb b 1 ≡ one_is
@@ -84,7 +72,7 @@ abbrev IsWide : ℕ → Instruction → Type 0
 IsWide width x = width_of x ≡ width
 
 with_width : (byte width : ℕ) (all : List Instruction) (x : Instruction) → AllByRecursion (IsWide width) all → with_opcode byte all ≡ Some x → width_of x ≡ width
-with_width byte width all x have e = (found (λ y. eqb (opcode_of y) byte) (IsWide width) all x have e).1
+with_width byte width all x have e = (found-has (λ y. eqb (opcode_of y) byte) (IsWide width) all x have e).1
 
 flagged_width : (byte : ℕ) (x : Instruction) (zero_is one_is : Bool) → with_opcode byte (cond zero_is (PushBoolean false ∷ []) (cond one_is (PushBoolean true ∷ []) [])) ≡ Some x → width_of x ≡ 2
 flagged_width byte x true one_is e = with_width byte 2 (PushBoolean false ∷ []) x (refl, tt) e
@@ -102,7 +90,7 @@ width_by byte (a ∷ b ∷ c ∷ d ∷ f ∷ rest) x size e = absurd (elim size 
 -- an opcode that is followed by a number is so in each version
 pub numbered_width : (version : Version) (byte n : ℕ) (x : Instruction) → with_opcode byte (numbered n) ≡ Some x → width_after version byte ≡ Some 4
 numbered_width version byte n x e =
-    let f = found (λ y. eqb (opcode_of y) byte) (λ y. width_after version (opcode_of y) ≡ Some 4) (numbered n) x (refl, (refl, (refl, (refl, (refl, (refl, (refl, (refl, (refl, (refl, (refl, (refl, (refl, (refl, (refl, (refl, tt)))))))))))))))) e in
+    let f = found-has (λ y. eqb (opcode_of y) byte) (λ y. width_after version (opcode_of y) ≡ Some 4) (numbered n) x (refl, (refl, (refl, (refl, (refl, (refl, (refl, (refl, (refl, (refl, (refl, (refl, (refl, (refl, (refl, (refl, tt)))))))))))))))) e in
     subst (λ (b : ℕ). width_after version b ≡ Some 4) (eqb-true _ _ f.0) f.1
 
 three_widths : (operand : Operand) (n : ℕ) → operand_width operand ≡ n → (n ≡ 0) ⊎ ((n ≡ 1) ⊎ (n ≡ 4))

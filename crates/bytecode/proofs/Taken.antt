@@ -5,7 +5,11 @@ use Rattle.std.specs.List.{AllByRecursion}
 use Rattle.std.proofs.lemmas.Bool.{ltb-true, eqb-true}
 use Rattle.std.proofs.lemmas.List.{append-nil}
 use Rattle.modules.specs.declared.fault.FormatRefusalKind.TheVariants.{BadValue}
-use Rattle.modules.specs.ByteFormat.{Coding, ByteFormat, Byte, Number, Text, Nothing, Marked, Checked, Then, Counted, Code, Named, spelled_each, spelled_instruction, spelled_code, spelled, FitEach, IsCoded, Fits, stop_at, ◌>>=◌, number_at, bytes_at, each_at, meant, operand_at, instruction_in, code_at, read}
+use Rattle.modules.specs.Opcodes.{Coding, code_bytes, instructions}
+use Rattle.modules.specs.declared.instruction.Instruction.{Instruction}
+use Rattle.modules.specs.declared.version.Version.{Version}
+use Rattle.modules.specs.ByteFormat.{ByteFormat, Byte, Number, Text, Nothing, Marked, Checked, Then, Counted, Code, Named, spelled_each, spelled_instruction, spelled_code, spelled, FitEach, IsCoded, Fits, stop_at, ◌>>=◌, number_at, bytes_at, each_at, meant, operand_at, instruction_in, code_at, read}
+use Rattle.modules.proofs.Spelling.{all_spelled, code-bytes}
 use Rattle.bytecode.proofs.Steps.{IsBytes, bytes_rest, step, passed, same_value, bytes_taken_at, number_taken_at}
 use Rattle.bytecode.proofs.Coherent.{IsLawful, Coherent}
 
@@ -137,6 +141,23 @@ code_taken coding lawful (suc most) (suc room) before bytes xs rest fits le e =
 
 -- ---- every format
 
+version_taken : (version : Version) → IsLawful (instructions version) → (bytes : List ℕ) (code : List Instruction) (rest : List ℕ) → IsBytes bytes → read (Code version) bytes ≡ Ok (code, rest) → Takes (Code version) bytes code rest
+version_taken version lawful bytes code rest fits e =
+    let coding = instructions version in
+    let s = step (number_at bytes) (λ size. code_at coding size.0 size.0 [] size.1) (code, rest) e in
+    let t = number_taken_at bytes s.0.0 s.0.1 fits s.1 in
+    let u = code_taken coding lawful s.0.0 s.0.0 [] s.0.1 code rest t.0.after (omega arith) s.2 in
+    let complete : code ≡ u.tail = u.complete in
+    let spelling : spelled_code coding u.tail ≡ code_bytes code = code-bytes version u.tail ∙ ap code_bytes (sym complete) in
+    let size-is : length (code_bytes code) ≡ s.0.0 = ap length (sym spelling) ∙ u.size in
+    let left : s.0.1 ≡ code_bytes code ++ rest = u.joined ∙ ap (λ (w : List ℕ). w ++ rest) spelling in
+    let number = to_be_bytes w32 (length (code_bytes code)) in
+    record {
+      fits = (rw size-is t.1, rw complete (all_spelled version u.tail u.coded));
+      joined = t.0.joined ∙ ap (λ (n : ℕ). to_be_bytes w32 n ++ s.0.1) (sym size-is) ∙ ap (λ (w : List ℕ). number ++ w) left ∙ sym (append_assoc number (code_bytes code) rest);
+      after = u.after;
+    }
+
 pub taken : {A : Type 0} (form : ByteFormat A) → Coherent form → IsTaken form
 taken Byte coherent [] x rest fits e = absurd cc
 taken Byte coherent (b ∷ bytes) x rest fits e =
@@ -196,16 +217,7 @@ taken (Counted {A} test one) coherent bytes x rest fits e =
       joined = t.0.joined ∙ ap (λ (n : ℕ). to_be_bytes w32 n ++ s.0.1) (sym count-is) ∙ ap (λ (w : List ℕ). to_be_bytes w32 (length x) ++ w) u.joined ∙ sym (append_assoc (to_be_bytes w32 (length x)) (spelled_each (λ seen y. spelled (one seen) y) [] u.tail) rest) ∙ ap (λ (l : List A). to_be_bytes w32 (length x) ++ spelled_each (λ seen y. spelled (one seen) y) [] l ++ rest) (sym u.complete);
       after = u.after;
     }
-taken (Code {A} coding) coherent bytes x rest fits e =
-    let s = step (number_at bytes) (λ size. code_at coding size.0 size.0 [] size.1) (x, rest) e in
-    let t = number_taken_at bytes s.0.0 s.0.1 fits s.1 in
-    let u = code_taken coding coherent s.0.0 s.0.0 [] s.0.1 x rest t.0.after (omega arith) s.2 in
-    let size-is : length (spelled_code coding x) ≡ s.0.0 = ap (λ (l : List A). length (spelled_code coding l)) u.complete ∙ u.size in
-    record {
-      fits = (rw size-is t.1, rw u.complete u.coded);
-      joined = t.0.joined ∙ ap (λ (n : ℕ). to_be_bytes w32 n ++ s.0.1) (sym size-is) ∙ ap (λ (w : List ℕ). to_be_bytes w32 (length (spelled_code coding x)) ++ w) u.joined ∙ sym (append_assoc (to_be_bytes w32 (length (spelled_code coding x))) (spelled_code coding u.tail) rest) ∙ ap (λ (l : List A). to_be_bytes w32 (length (spelled_code coding x)) ++ spelled_code coding l ++ rest) (sym u.complete);
-      after = u.after;
-    }
+taken (Code version) coherent bytes x rest fits e = version_taken version coherent bytes x rest fits e
 taken (Named {A} {B} make fields form) coherent bytes x rest fits e =
     let s = step (read form bytes) (λ found. Ok (make found.0, found.1)) (x, rest) e in
     let t = taken form coherent.0 bytes s.0.0 s.0.1 fits s.1 in

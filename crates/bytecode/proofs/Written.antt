@@ -1,5 +1,5 @@
 -- What is written of a module is its spelling, and its lengths and counts fit four bytes.
-use Rattle.std.proofs.Common.{◌≡◌, ℕ, Bool, true, false, cond, eqb, ltb, ◌||◌, List, [], ◌∷◌, ◌++◌, length, All, refl, sym, ap, ◌∙◌, arith, length-append, append_assoc}
+use Rattle.std.proofs.Common.{◌≡◌, ℕ, Bool, true, false, cond, eqb, ltb, ◌||◌, List, [], ◌∷◌, ◌++◌, length, All, refl, sym, ap, ◌∙◌, append_assoc}
 use Rattle.std.specs.Int.{w32, cast_signed}
 use Rattle.std.specs.List.{flat_map, AllByRecursion}
 use Rattle.std.proofs.lemmas.List.{length-map}
@@ -7,12 +7,9 @@ use Rattle.std.proofs.lemmas.List.Elements.{All-from_recursion, recursion_from_A
 use Rattle.std.specs.Global.{Global as Allocator}
 use Rattle.std.specs.Prelude.{String, string_bytes}
 use Rattle.bytecode.specs.Reading.{texts}
-use Rattle.modules.proofs.Spelling.{spelled-width}
 use Rattle.labels.specs.Label.{ReaderPolicy, Label}
 use Rattle.principals.specs.ActsFor.{PrincipalHierarchy}
-use Rattle.modules.specs.declared.instruction.Instruction.{Instruction}
 use Rattle.modules.specs.declared.version.Version.{Version}
-use Rattle.modules.specs.declared.version.Version.TheVariants.{One}
 use Rattle.common.specs.declared.base_type.BaseType.TheVariants as kind
 use Rattle.modules.specs.declared.declaration.Slot.{Slot}
 use Rattle.modules.specs.declared.declaration.Global.{Global}
@@ -20,11 +17,10 @@ use Rattle.modules.specs.declared.declaration.Global.TheVariants as global
 use Rattle.modules.specs.declared.declaration.Handler.{Handler}
 use Rattle.modules.specs.declared.fault.FormatRefusalKind.TheVariants.{BadValue}
 use Rattle.modules.specs.Contents.{ChannelContents, ProcedureContents, ModuleContents}
-use Rattle.modules.specs.Code.{code_length, width_of}
-use Rattle.modules.specs.ByteFormat.{ByteFormat, Number, Checked, Fits, FitEach, spelled, spelled_each, spelled_code}
-use Rattle.modules.specs.Opcodes.{instructions}
+use Rattle.modules.specs.ByteFormat.{ByteFormat, Number, Checked, Fits, FitEach, spelled, spelled_each}
+use Rattle.modules.specs.Opcodes.{code_bytes}
 use Rattle.modules.specs.Format.{direction_byte, kind_byte, returned_byte, magic, version, version_number, is_built_in, is_among, channel_names, name_after, number_below, principals, pair_after, hierarchy, exceptions, direction, reader_after, policy_after, label, channel_after, channels, declared, of_scalar, global_after, globals, slot_after, slots, variable_kind, returned, handler, handlers, procedure, procedures, main, program, contents, module_file}
-use Rattle.bytecode.specs.Writing.{number_bytes, list_bytes, text_bytes, pair_bytes, policy_bytes, channel_bytes, variable_bytes, slot_bytes, handler_bytes, instruction_bytes, code_bytes, procedure_bytes, module_bytes, IsShort, PolicyFits, ChannelFits, ProcedureFits, ModuleFits}
+use Rattle.bytecode.specs.Writing.{number_bytes, list_bytes, text_bytes, pair_bytes, policy_bytes, channel_bytes, variable_bytes, slot_bytes, handler_bytes, procedure_bytes, module_bytes, IsShort, PolicyFits, ChannelFits, ProcedureFits, ModuleFits}
 
 -- ---- lists
 
@@ -140,22 +136,17 @@ handler-bytes : (before : List Handler) (x : Handler) → Fits handler x → spe
 unfolding handler handler_bytes
 handler-bytes before x h = refl
 
-code-bytes : (v : Version) (code : List Instruction) → spelled_code (instructions v) code ≡ code_bytes code
-unfolding instructions
-code-bytes v [] = refl
-code-bytes v (x ∷ xs) = ap (λ (bytes : List ℕ). instruction_bytes x ++ bytes) (code-bytes v xs)
-
 procedure-bytes : (v : Version) (before : List ProcedureContents) (x : ProcedureContents) → Fits (procedure v) x → spelled (procedure v) x ≡ procedure_bytes x
 unfolding procedure procedure_bytes returned slots handlers
 procedure-bytes v before x h =
     after (returned_byte x.returned ∷ []) (after (number_bytes x.parameters) (two (counted_bytes (slot_after x.parameters) slot_bytes (slot-bytes x.parameters) x.slots h.0.1.1.0.2)
-    (two (ap (λ (bytes : List ℕ). number_bytes (length bytes) ++ bytes) (code-bytes v x.code)) (counted_bytes (λ _. handler) handler_bytes handler-bytes x.handlers h.0.1.1.1.1.2))))
+    (after (number_bytes (length (code_bytes x.code)) ++ code_bytes x.code) (counted_bytes (λ _. handler) handler_bytes handler-bytes x.handlers h.0.1.1.1.1.2))))
 
 procedure_fits : (v : Version) (before : List ProcedureContents) (x : ProcedureContents) → Fits (procedure v) x → ProcedureFits x
 unfolding procedure slots handlers
 procedure_fits v before x h = record {
   slots = h.0.1.1.0.0;
-  code = rw (code-bytes v x.code) at h.0.1.1.1.0.0;
+  code = h.0.1.1.1.0.0;
   handlers = h.0.1.1.1.1.0;
 }
 
@@ -224,10 +215,6 @@ module_fits m h =
 
 -- ---- what the functions that write have put together
 
-instruction_size : (x : Instruction) → length (instruction_bytes x) ≡ width_of x
-unfolding instructions
-instruction_size x = spelled-width One x
-
 each_text : (names : List (String Allocator)) → flat_map (λ text. text_bytes (string_bytes text)) names ≡ flat_map text_bytes (texts names)
 each_text [] = refl
 each_text (name ∷ names) = after (text_bytes (string_bytes name)) (each_text names)
@@ -235,10 +222,6 @@ each_text (name ∷ names) = after (text_bytes (string_bytes name)) (each_text n
 each_short : (names : List (String Allocator)) → AllByRecursion IsShort (texts names) → AllByRecursion (λ text. IsShort (string_bytes text)) names
 each_short [] h = tt
 each_short (name ∷ names) h = (h.0, each_short names h.1)
-
-pub code_length-is : (code : List Instruction) → code_length code ≡ length (code_bytes code)
-code_length-is [] = refl
-code_length-is (x ∷ xs) = omega (arith, code_length-is xs, length-append (instruction_bytes x) (code_bytes xs), instruction_size x)
 
 pub texts-bytes : (names : List (String Allocator)) → list_bytes (λ text. text_bytes (string_bytes text)) names ≡ list_bytes text_bytes (texts names)
 texts-bytes names = two (ap number_bytes (sym (length-map names string_bytes))) (each_text names)

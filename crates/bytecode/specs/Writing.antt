@@ -4,14 +4,13 @@ use Rattle.std.specs.Prelude.{ℕ, ◌^◌, ◌<◌, List, [], ◌∷◌, ◌++�
 use Rattle.std.specs.Int.{w32, cast_unsigned, to_be_bytes}
 use Rattle.std.specs.List.{flat_map}
 use Rattle.labels.specs.Label.{ReaderPolicy}
-use Rattle.modules.specs.declared.instruction.Instruction.{Instruction}
 use Rattle.modules.specs.declared.declaration.Slot.{Slot}
 use Rattle.modules.specs.declared.declaration.Global.{Global}
 use Rattle.modules.specs.declared.declaration.Global.TheVariants as global
 use Rattle.common.specs.declared.base_type.BaseType.TheVariants as kind
 use Rattle.modules.specs.declared.declaration.Handler.{Handler}
 use Rattle.modules.specs.Contents.{ChannelContents, ProcedureContents, ModuleContents}
-use Rattle.modules.specs.Opcodes.{opcode_of, operand_of}
+use Rattle.modules.specs.Opcodes.{code_bytes}
 use Rattle.modules.specs.Format.{direction_byte, kind_byte, magic, returned_byte, slot_fields, version_number}
 
 abbrev pub number_bytes : ℕ → List ℕ
@@ -45,12 +44,6 @@ slot_bytes slot = (kind_byte (slot_fields slot).0 ∷ []) ++ number_bytes (slot_
 unfoldable pub handler_bytes : Handler → List ℕ
 handler_bytes handler =
     number_bytes handler.start ++ (number_bytes handler.end ++ (number_bytes handler.exception ++ number_bytes handler.target))
-
-abbrev pub instruction_bytes : Instruction → List ℕ
-instruction_bytes instruction = opcode_of instruction ∷ operand_of instruction
-
-abbrev pub code_bytes : List Instruction → List ℕ
-code_bytes code = flat_map instruction_bytes code
 
 unfoldable pub procedure_bytes : ProcedureContents → List ℕ
 procedure_bytes p =

@@ -122,7 +122,7 @@ pub(crate) fn read_code(
     bytes: &[u8],
 ) -> Result<(Vec<Instruction>, &[u8]), FieldFault>
     ensures { Decodes (λ x. (x.0.items, x.1.now)) result
-        (read (Code (instructions version)) bytes.now) }
+        (read (Code version) bytes.now) }
 {
     let (size, rest) = read_number(bytes)?;
     read_instructions(alloc, version, size, rest)

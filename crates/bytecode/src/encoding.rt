@@ -3,7 +3,8 @@
 ghost use Rattle.modules.specs.ByteFormat.{Fits, Spells};
 ghost use Rattle.modules.specs.Format.{module_file};
 ghost use Rattle.bytecode.specs.Reading.{texts};
-ghost use Rattle.bytecode.specs.Writing.{code_bytes, IsShort, list_bytes, module_bytes, number_bytes, pair_bytes, procedure_bytes, ProcedureFits, text_bytes};
+ghost use Rattle.modules.specs.Opcodes.{code_bytes};
+ghost use Rattle.bytecode.specs.Writing.{IsShort, list_bytes, module_bytes, number_bytes, pair_bytes, procedure_bytes, ProcedureFits, text_bytes};
 ghost use Rattle.std.specs.Prelude.{All, IfOk, length, OnOk, ◌++◌, ◌≡◌};
 
 use crate::decoding::MAGIC;

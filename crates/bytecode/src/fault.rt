@@ -1,9 +1,9 @@
 //! Why a module was not read.
 
-ghost use Rattle.modules.specs.RefusalKinds.{format_refusal_words};
+ghost use Rattle.modules.specs.RefusalKinds.{format_message};
 ghost use Rattle.std.specs.Prelude.{Some};
 
-use common::OrNoMemory;
+use common::{OrNoMemory, Reported};
 use modules::FormatRefusalKind;
 use std::error::Error;
 use std::fmt;
@@ -16,7 +16,7 @@ pub struct FormatRefusal {
 }
 
 impl fmt::Display for FormatRefusal {
-    ghost output = { λ refusal. Some (format_refusal_words refusal.kind) };
+    ghost output = { λ refusal. Some (format_message refusal.kind).words };
 
     fn fmt<W: fmt::Write>(&self, f: &mut fmt::Formatter<W>) -> fmt::Result {
         write!(f, "{}", self.kind.words())

@@ -11,7 +11,8 @@ use Rattle.labels.specs.Sent.{IsPrefix}
 use Rattle.labels.proofs.Prefixes.{prefix-through}
 use Rattle.channels.specs.Sink.{AppendsPrefix}
 use Rattle.modules.specs.Contents.{ChannelContents, ModuleContents}
-use Rattle.modules.specs.Isolated.{channel_label_under, label_in}
+use Rattle.modules.specs.Isolated.{channel_label_under}
+use Rattle.modules.specs.MachineParts.{label_in}
 use Rattle.principals.specs.ActsFor.{PrincipalHierarchy}
 use Rattle.labels.specs.Carried.{label_under}
 use Rattle.labels.specs.Label.{may_read}

@@ -1,17 +1,12 @@
 -- The number and the words of what is wrong with a line of a world's text.
 -- Source: our own.
-use Rattle.std.specs.Prelude.{ℕ, List, codes}
+use Rattle.std.specs.Prelude.{codes}
+use Rattle.common.specs.Message.{MessageContents, message}
 use Rattle.channels.specs.declared.kind.WorldRefusalKind.{WorldRefusalKind}
 use Rattle.channels.specs.declared.kind.WorldRefusalKind.TheVariants.{Syntax, UnknownChannel, RepeatedChannel, NumberOutOfRange}
 
-abbrev pub world_number : WorldRefusalKind → ℕ
-world_number Syntax = 851
-world_number UnknownChannel = 852
-world_number RepeatedChannel = 853
-world_number NumberOutOfRange = 854
-
-abbrev pub world_words : WorldRefusalKind → List ℕ
-world_words Syntax = codes "syntax"
-world_words UnknownChannel = codes "unknown channel"
-world_words RepeatedChannel = codes "repeated channel"
-world_words NumberOutOfRange = codes "number out of range"
+abbrev pub world_message : WorldRefusalKind → MessageContents
+world_message Syntax = message 851 (codes "syntax")
+world_message UnknownChannel = message 852 (codes "unknown channel")
+world_message RepeatedChannel = message 853 (codes "repeated channel")
+world_message NumberOutOfRange = message 854 (codes "number out of range")

@@ -1,7 +1,7 @@
-ghost use Rattle.channels.specs.RefusalKinds.{world_number, world_words};
-ghost use Rattle.std.specs.Prelude.{◌≡◌, Some};
+ghost use Rattle.channels.specs.RefusalKinds.{world_message};
+ghost use Rattle.std.specs.Prelude.{Some};
 
-use common::OrNoMemory;
+use common::{Message, OrNoMemory, Reported};
 use std::error::Error;
 use std::fmt;
 
@@ -18,28 +18,15 @@ pub enum WorldRefusalKind {
     NumberOutOfRange,
 }
 
-impl WorldRefusalKind {
-    /// The number that the refusal is reported by, 851 to 854.
-    pub fn number(self) -> u32
-        ensures { result ≡ world_number self }
-    {
-        match self {
-            WorldRefusalKind::Syntax => 851,
-            WorldRefusalKind::UnknownChannel => 852,
-            WorldRefusalKind::RepeatedChannel => 853,
-            WorldRefusalKind::NumberOutOfRange => 854,
-        }
-    }
+impl Reported for WorldRefusalKind {
+    ghost contents = { world_message };
 
-    /// The words that the refusal is reported by.
-    pub fn words(self) -> &'static str
-        ensures { result.now ≡ world_words self }
-    {
+    fn message(&self) -> Message {
         match self {
-            WorldRefusalKind::Syntax => "syntax",
-            WorldRefusalKind::UnknownChannel => "unknown channel",
-            WorldRefusalKind::RepeatedChannel => "repeated channel",
-            WorldRefusalKind::NumberOutOfRange => "number out of range",
+            WorldRefusalKind::Syntax => Message::new(851, "syntax"),
+            WorldRefusalKind::UnknownChannel => Message::new(852, "unknown channel"),
+            WorldRefusalKind::RepeatedChannel => Message::new(853, "repeated channel"),
+            WorldRefusalKind::NumberOutOfRange => Message::new(854, "number out of range"),
         }
     }
 }
@@ -52,7 +39,7 @@ pub struct WorldRefusal {
 }
 
 impl fmt::Display for WorldRefusal {
-    ghost output = { λ refusal. Some (world_words refusal.kind) };
+    ghost output = { λ refusal. Some (world_message refusal.kind).words };
 
     fn fmt<W: fmt::Write>(&self, f: &mut fmt::Formatter<W>) -> fmt::Result {
         write!(f, "{}", self.kind.words())

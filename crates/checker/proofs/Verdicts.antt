@@ -11,7 +11,7 @@ use Rattle.acceptance.specs.Refused.{IsSourceRefused, WrongFlow}
 use Rattle.acceptance.specs.declared.kind.RefusalKind.TheVariants as kinds
 use Rattle.acceptance.specs.declared.kind.Text.TheVariants as texts
 use Rattle.acceptance.proofs.Phases.{accepted_refused}
-use Rattle.checker.specs.Reported.{AsksForFlow, IsNotAccepted, IsSourceFault, refusal_at}
+use Rattle.checker.specs.Reported.{IsNotAccepted, IsSourceFault, refusal_at}
 use Rattle.checker.specs.Steps.{RefusesProgram}
 use Rattle.checker.specs.declared.fault.RefusedFlow.{RefusedFlow}
 use Rattle.checker.specs.declared.fault.Refusal.{Refusal}
@@ -49,6 +49,3 @@ module _ (h : PrincipalHierarchy) (source bytes : List ℕ) (core : Core) (flow 
         (WrongFlow (program_of flow.core) resolved unended flow.policy refused.1.chain refused.1.last refused.1.refused);
     place_of = rw same refl;
   }
-
-  pub flow-asked : AsksForFlow h source reported flow
-  flow-asked = record { resolved = resolved; ended = unended; reported = refused.1; refusal_is = rw same refl }

@@ -1,11 +1,11 @@
 //! Why a source was not accepted.
 
-ghost use Rattle.acceptance.specs.RefusalKinds.{refusal_kind_words};
+ghost use Rattle.acceptance.specs.RefusalKinds.{refusal_message};
 ghost use Rattle.checker.specs.Reported as reported;
 ghost use Rattle.std.specs.Prelude.{Some, ◌≡◌};
 
 use acceptance::{RefusalKind, Text};
-use common::OrNoMemory;
+use common::{OrNoMemory, Reported};
 use labels::Policy;
 use lexer::{Place, place};
 use resolved::program::Core;
@@ -52,7 +52,7 @@ pub struct Refusal {
 pub type Fault = OrNoMemory<Refusal>;
 
 impl fmt::Display for Refusal {
-    ghost output = { λ refusal. Some (refusal_kind_words refusal.kind) };
+    ghost output = { λ refusal. Some (refusal_message refusal.kind).words };
 
     fn fmt<W: fmt::Write>(&self, f: &mut fmt::Formatter<W>) -> fmt::Result {
         write!(f, "{}", self.kind.words())

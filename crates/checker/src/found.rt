@@ -16,14 +16,19 @@ pub(crate) struct PhaseRefusal {
     pub at: usize,
 }
 
+impl PhaseRefusal {
+    fn new(kind: RefusalKind, at: usize) -> PhaseRefusal
+        ensures { result ≡ record { kind = kind; at = at } }
+    {
+        PhaseRefusal { kind, at }
+    }
+}
+
 impl From<LexRefusal> for PhaseRefusal {
     ghost from_gives = { λ refusal given. given ≡ of_lex refusal };
 
     fn from(refusal: LexRefusal) -> PhaseRefusal {
-        PhaseRefusal {
-            kind: RefusalKind::Lex(refusal.kind),
-            at: refusal.at,
-        }
+        PhaseRefusal::new(RefusalKind::Lex(refusal.kind), refusal.at)
     }
 }
 
@@ -31,10 +36,7 @@ impl From<ParseRefusal> for PhaseRefusal {
     ghost from_gives = { λ refusal given. given ≡ of_parse refusal };
 
     fn from(refusal: ParseRefusal) -> PhaseRefusal {
-        PhaseRefusal {
-            kind: RefusalKind::Parse(refusal.kind),
-            at: refusal.at,
-        }
+        PhaseRefusal::new(RefusalKind::Parse(refusal.kind), refusal.at)
     }
 }
 
@@ -42,10 +44,7 @@ impl From<TypeRefusal> for PhaseRefusal {
     ghost from_gives = { λ refusal given. given ≡ of_name refusal };
 
     fn from(refusal: TypeRefusal) -> PhaseRefusal {
-        PhaseRefusal {
-            kind: RefusalKind::Name(refusal.kind),
-            at: refusal.at,
-        }
+        PhaseRefusal::new(RefusalKind::Name(refusal.kind), refusal.at)
     }
 }
 
@@ -53,9 +52,6 @@ impl From<ExitRefusal> for PhaseRefusal {
     ghost from_gives = { λ refusal given. given ≡ of_end refusal };
 
     fn from(refusal: ExitRefusal) -> PhaseRefusal {
-        PhaseRefusal {
-            kind: RefusalKind::End(refusal.kind),
-            at: refusal.at,
-        }
+        PhaseRefusal::new(RefusalKind::End(refusal.kind), refusal.at)
     }
 }

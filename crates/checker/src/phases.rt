@@ -68,7 +68,7 @@ pub fn check(alloc: Global, hierarchy: &Hierarchy, source: &str) -> Result<Check
         }
     };
     let Analysed { core, ends } = analysed;
-    match find_labels(alloc, core, &ends) {
+    match find_labels(alloc, core, ends) {
         Ok(checked) => Ok(checked),
         Err(OrNoMemory::NoMemory) => Err(OrNoMemory::NoMemory),
         Err(OrNoMemory::Refused(flow)) => {
@@ -86,15 +86,17 @@ pub fn check(alloc: Global, hierarchy: &Hierarchy, source: &str) -> Result<Check
 }
 
 // A program without a fault of its exits, with its least labels if it is labelled.
-fn find_labels(alloc: Global, core: Core, ends: &Ends) -> Result<Checked, OrNoMemory<RefusedFlow>>
+fn find_labels(alloc: Global, core: Core, ends: Ends) -> Result<Checked, OrNoMemory<RefusedFlow>>
     requires ended { exit_faults (program_of core) ≡ [] }
-    requires mapped { AreEndsOf (program_of core) ends.now }
+    requires mapped { AreEndsOf (program_of core) ends }
     requires names { HasNames (program_of core) }
     ensures core { IfOk result (λ checked. checked.core ≡ core) }
     ensures checked { IfOk result IsChecked }
     ensures rejected { IfErr result (IfRefused (RefusesProgram core)) }
 {
-    let system = gather(alloc, &core, ends)?;
+    let system = gather(alloc, &core, &ends)?;
+    // The constraints say all that is asked for, and solving them takes as much memory.
+    drop(ends);
     let written = LabelsUnder {
         hierarchy: &core.hierarchy,
         labels: &core.labels,

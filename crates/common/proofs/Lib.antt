@@ -1,3 +1,4 @@
 pub mod Cases
 pub mod Casting
 pub mod Elements
+pub mod Leading

@@ -3,3 +3,4 @@ pub mod Bits
 pub mod Exceptions
 pub mod Functions
 pub mod Integers
+pub mod Message

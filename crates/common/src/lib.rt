@@ -8,11 +8,13 @@ pub mod exceptions;
 pub mod fault;
 pub mod laws;
 pub mod limits;
+pub mod message;
 pub mod sent;
 pub mod version;
 
 pub use base_type::BaseType;
 pub use direction::Direction;
 pub use fault::OrNoMemory;
+pub use message::{Message, Reported};
 pub use sent::Pair;
 pub use version::VERSION;

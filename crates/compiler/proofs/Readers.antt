@@ -12,7 +12,8 @@ use Rattle.resolved.specs.Labelled.{channel_label}
 use Rattle.resolved.specs.Program.{Program, ChannelEntry, channel_at}
 use Rattle.resolved.specs.SourceState.{World}
 use Rattle.modules.specs.Contents.{ChannelContents, ModuleContents}
-use Rattle.modules.specs.Isolated.{label_in, channel_label as module_label, channel_label_under, module_view, AgreeOnInputs}
+use Rattle.modules.specs.Isolated.{channel_label as module_label, channel_label_under, module_view, AgreeOnInputs}
+use Rattle.modules.specs.MachineParts.{label_in}
 use Rattle.lowering.specs.Interface.{HasInterfaceOf, channel_contents}
 
 -- what stands in a module's table of channels is what stands in the program's

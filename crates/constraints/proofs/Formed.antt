@@ -7,7 +7,8 @@ use Rattle.resolved.specs.CoreOf.{program_of}
 use Rattle.resolved.specs.declared.program.Core.{Core}
 use Rattle.resolved.specs.declared.statement.Exit.{Exit}
 use Rattle.std.proofs.lemmas.Result.{on_ok_weaker}
-use Rattle.constraints.specs.ByWalk.{IsFormWalkedBy}
+use Rattle.constraints.specs.ByTable.{IsGatheredBy}
+use Rattle.constraints.specs.ByWalk.{IsFormWalkedBy, IsSimpleBy, scope_in}
 use Rattle.constraints.specs.declared.around.Context.{Context}
 use Rattle.constraints.specs.declared.statements.ProcedureWalk.{ProcedureWalk}
 use Rattle.resolved.specs.declared.statement.Statement as S
@@ -24,15 +25,18 @@ use Rattle.path_map.specs.Paths.{block_paths, handlers_paths, inner_paths, rest_
 use Rattle.gathering.specs.Names.{NamedAtom, NamedConstraint, Real, named_atoms}
 use Rattle.gathering.specs.Walk as walk
 use Rattle.gathering.specs.Walk.{block_constraints, flow, handler_count, handler_number, handlers_constraints, in_loop, in_try, inner_atom, inner_block, inner_constraint, made_by_block, made_by_handlers, made_by_statement, raise_atoms, raised_flows, rule_constraint, single, statement_constraints, with_normal, within_single}
+use Rattle.solver.specs.Rule.{rule_number}
 use Rattle.solver.specs.declared.constraints.Atom.{Atom}
-use Rattle.constraints.specs.Added.{IsPart}
+use Rattle.constraints.specs.Added.{IsPart, Stored}
 use Rattle.constraints.specs.Journals.{IsUpToDate, moments_at, noted_all}
 use Rattle.constraints.specs.LeftSides.{scope_of}
+use Rattle.constraints.specs.Ready.{entries_of}
 use Rattle.constraints.specs.ExitUnknowns.{AreLevelled, AreWithin, no_entry, exit_unknowns_around, exit_unknowns_of, undone}
 use Rattle.constraints.specs.Thinned.{AreNoted}
-use Rattle.constraints.specs.Walks.{IsSimple, loop_head_constraints}
+use Rattle.constraints.specs.Walks.{IsSimple, loop_head_constraints, valued_constraints}
 use Rattle.constraints.specs.Walked.{AreHandlersWalked, AreStatementsWalked, HasPassed, IsBlockWalked, IsFormWalked, IsStatementWalked, IsTried, IsWalked, branch_constraints, step_constraints}
 use Rattle.constraints.specs.declared.around.Around.{Around}
+use Rattle.constraints.specs.declared.forms.Demand.{Demand}
 use Rattle.constraints.specs.declared.pieces.Tried.{Tried}
 use Rattle.constraints.specs.declared.progress.Progress.{Progress}
 use Rattle.constraints.specs.declared.exit_unknowns.ExitUnknown.{ExitUnknown}
@@ -281,3 +285,20 @@ pub form-by : {A E : Type 0} (walk : ProcedureWalk) (context : Context) (s : S.S
     → statement_of s ≡ tree → OnOk result (IsFormWalkedBy walk context tree old new) → OnOk result (IsFormWalkedBy walk context (statement_of s) old new)
 form-by walk context s tree old new result is walked =
     on_ok_weaker result (λ one. subst (λ tree'. IsFormWalkedBy walk context tree' old new) (sym is) one) walked
+
+-- a statement without inner unknowns by its tree, where what is gathered of the tree was added
+pub form-simple : {A E : Type 0} (walk : ProcedureWalk) (context : Context) (around : Around) (thrown : List ExitUnknown) (s : S.Statement) (tree : Statement) (old new : Progress) (result : Result A E)
+    → statement_of s ≡ tree → inner_paths (program_of walk.table.now.core.now) tree ≡ [] → made_by_statement tree ≡ 0
+    → thrown ≡ old.thrown.items → new ≡ record old { constraints = new.constraints }
+    → around.pc ≡ context.pc → exit_unknowns_around around ≡ exit_unknowns_of context.exit_unknowns thrown
+    → OnOk result (IsSimpleBy walk around tree old.constraints.items new.constraints.items) → OnOk result (IsFormWalkedBy walk context (statement_of s) old new)
+form-simple walk context around thrown s tree old new result is none made_none same kept pc_is exit_unknowns_are added =
+    form-by walk context s tree old new result is (on_ok_weaker result
+    (λ simple. simple-walked walk.table.now.core.now walk.table.now.core.now.labels (entries_of walk.map.now) walk.procedure tree context.pc context.exit_unknowns around thrown old new
+    none made_none same (ap (λ (p : Progress). p.index) kept) (ap (λ (p : Progress). p.number) kept) (ap (λ (p : Progress). p.thrown.items) kept) (ap (λ (p : Progress). p.journal) kept) pc_is exit_unknowns_are simple)
+    added)
+
+-- what a demand on a value and the exits of its statement ask for was added
+abbrev pub IsValued : ProcedureWalk → Around → Expression → Exit → (old new : List Stored) → Demand → Type 0
+IsValued walk around value exit old new demand =
+    IsGatheredBy walk.table.now around.pc (λ named. valued_constraints (scope_in walk) named (exit_unknowns_around around) demand.at (rule_number demand.rule) value demand.target exit) old new

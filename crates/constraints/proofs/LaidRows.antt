@@ -1,5 +1,5 @@
 -- Rows of parts that are laid out one after the other, and what they are together with what was taken for them.
-use Rattle.std.proofs.Common.{◌≡◌, ◌≢◌, refl, sym, ap, ◌∙◌, subst, ℕ, zero, suc, ◌+◌, ◌*◌, ◌<◌, ◌≤◌, ◌==◌, get_or, List, [], ◌∷◌, ◌++◌, drop, length, take, arith, ◌⊎◌, inl, inr, ⊎_elim}
+use Rattle.std.proofs.Common.{◌≡◌, ◌≢◌, refl, sym, ap, ◌∙◌, subst, ℕ, zero, suc, ◌+◌, ◌*◌, ◌<◌, ◌≤◌, ◌==◌, List, [], ◌∷◌, ◌++◌, drop, length, take, arith, ◌⊎◌, inl, inr, ⊎_elim}
 use Rattle.std.specs.Prelude.{Contains, Option, None, Some, if◌then◌else◌}
 use Rattle.std.proofs.lemmas.Bool.{cases_eq, eq-eqb, ne_eqb}
 use Rattle.std.proofs.lemmas.List.{append_assoc, append-nil, take-append-drop}
@@ -18,7 +18,7 @@ use Rattle.constraints.specs.declared.journal.Called.{Called}
 use Rattle.constraints.specs.declared.journal.Journal.{Journal}
 use Rattle.constraints.specs.declared.laying.Further.{Further}
 use Rattle.constraints.specs.declared.spreading.Made.{Made}
-use Rattle.constraints.proofs.PartRows.{first-part, flows-more, parts-here, parts-inside, unknowns-here}
+use Rattle.constraints.proofs.PartRows.{first-part, flows-more, parts-inside}
 
 -- ---- among more constraints, and of more flows and unknowns
 on-more : (xs ys : List Stored) (part to : Atom) → ((c : Stored) → Contains xs c → Contains ys c) → FlowsOn xs part to → FlowsOn ys part to
@@ -360,6 +360,3 @@ shared-all Over core table journal calls start rows wide old between new others 
     }
 
 -- ---- for the functions that lay rows out
-pub row-split : (rows : List Row) (k : ℕ) (parts : Row) → k < length rows → parts ≡ get_or rows k parts → parts_at rows k ≡ unknowns_at rows k ++ parts.written
-row-split rows k parts inside is =
-    parts-here rows k parts parts inside is ∙ ap (λ xs. xs ++ parts.written) (sym (unknowns-here rows k parts parts inside is))

@@ -205,16 +205,6 @@ taken-both Over same then a b old middle new before between after first second =
 }
 
 -- ---- parts that are laid out
-pub laid-none : (k : ℕ) (xs ys : List Atom) (old : List Stored) → length xs ≡ 0 → length ys ≡ 0 → IsLaidOut k (xs ++ ys) old old
-laid-none k [] [] old no_unknowns no_written = record {
-  laid = [];
-  laid_is = sym (append-nil old);
-  goes = λ p h. absurd (none_in_nil p h);
-  came = λ p to flow. absurd (none_in_nil flow.by flow.among);
-  inner = λ c h. absurd (none_in_nil c h);
-}
-laid-none k [] (y ∷ ys) old no_unknowns no_written = absurd (omega (arith, no_written))
-laid-none k (x ∷ xs) ys old no_unknowns no_written = absurd (omega (arith, no_unknowns))
 
 pub first-part : (xs : List Atom) → 0 < length xs → (part : Atom) × Contains xs part
 first-part [] some = absurd (omega (arith, some))

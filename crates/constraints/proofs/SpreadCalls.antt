@@ -153,10 +153,6 @@ module _ (core : Core) (table : List Label) (walked : Progress) (from_number nex
   each : (c : NamedConstraint) → Contains spread.added c → IsSpread core walked.journal stands from_number next_number calls c
   each = spread.each stands for-themselves stand-from
 
-  -- a node is an own label or a further unknown
-  node-old : (node : ℕ) → IsNode from_number next_number calls node → node < count → stands node ≡ node ∷ []
-  node-old node is below = stands-old node below
-
   abbrev unknown : ℕ → formal.Atom ℕ Label
   unknown own = Unknown own
 

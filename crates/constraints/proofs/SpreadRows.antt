@@ -17,6 +17,7 @@ use Rattle.resolved.specs.Program.{Program, ProcedureEntry, ThrownEntry, procedu
 use Rattle.resolved.specs.ProgramOf.{procedure_entry}
 use Rattle.resolved.specs.WellFormed.{is_exception, label_fits, procedure_fits, throws_fit}
 use Rattle.resolved.proofs.WellFormedParts.{procedure_parts, program_parts}
+use Rattle.resolved.proofs.Exits.{thrown_label-first}
 use Rattle.gathering.specs.Names.{unknowns_before}
 use Rattle.solver.specs.declared.constraints.Atom.{Atom}
 use Rattle.constraints.specs.Added.{Stored}
@@ -56,14 +57,16 @@ labels-are program table (entry ∷ entries) (label ∷ labels) fits es ls x h =
     let rest : thrown_parts table labels ≡ map (λ (e : ThrownEntry). Written e.label) entries = cc in
     ⊎_elim
     (λ is. subst (λ (y : ThrownLabel). part table y.label ≡ Written (thrown_label (entry ∷ entries) y.exception)) is
-    (here ∙ ap (λ b. Written (if b then entry.label else thrown_label entries label.exception)) (sym (eq-eqb label.exception entry.exception same))))
+    (here ∙ ap (λ b. Written (if b then entry.label else thrown_label entries label.exception)) (sym (eq-eqb label.exception entry.exception same))
+    ∙ ap Written (sym (thrown_label-first entry entries label.exception))))
     (λ k.
     let among : Contains (declared_by entries) x.exception =
     subst (λ list. Contains list x.exception) more (contained_map (λ (thrown : ThrownLabel). thrown.exception) labels x k) in
     let other : (x.exception == entry.exception) ≡ false = false_from_ne_true (x.exception == entry.exception)
     (λ e. none-among entry.exception entries (not-true once first.1) (subst (Contains (declared_by entries)) (eqb-true x.exception entry.exception e) among)) in
     labels-are program table entries labels all.1 more rest x k
-    ∙ ap (λ b. Written (if b then entry.label else thrown_label entries x.exception)) (sym other))
+    ∙ ap (λ b. Written (if b then entry.label else thrown_label entries x.exception)) (sym other)
+    ∙ ap Written (sym (thrown_label-first entry entries x.exception)))
     (Contains-cons_cases label labels x h)
 
 all-fit : (program : Program) (ps : List ProcedureEntry) (f : ℕ) → list_all (procedure_fits program) ps ≡ true → throws_fit program (get_or ps f no_procedure).throws ≡ true

@@ -22,6 +22,7 @@ use Rattle.resolved.specs.declared.target.Target.TheVariants.{ToLoop, ToVariable
 use Rattle.resolved.specs.Labelled.{OfLocal, result_label, thrown_label, written_or}
 use Rattle.resolved.specs.Exits.{declared_by}
 use Rattle.resolved.specs.Tree.{Empty}
+use Rattle.resolved.proofs.Exits.{thrown_label-first}
 use Rattle.gathering.specs.Names.{Real, own_unknowns, unknowns_before}
 use Rattle.path_map.specs.Exceptions.{exceptions_of}
 use Rattle.path_map.proofs.Declared.{declared-same}
@@ -249,7 +250,7 @@ thrown-at table (entry ∷ entries) (label ∷ labels) x nothing es ls is =
     let more : map (λ (thrown : ThrownLabel). thrown.exception) labels ≡ declared_by entries = cc in
     let rest : thrown_parts table labels ≡ map (λ (e : ThrownEntry). Written e.label) entries = cc in
     let inner : part table (label_among labels x nothing) ≡ Written (thrown_label entries x) = thrown-at table entries labels x nothing more rest is in
-    go label.exception same (x == entry.exception) refl here inner
+    go label.exception same (x == entry.exception) refl here inner ∙ ap Written (sym (thrown_label-first entry entries x))
   where
     go : (e : ℕ) → e ≡ entry.exception → (b : Bool) → (x == entry.exception) ≡ b
         → part table label.label ≡ Written entry.label → part table (label_among labels x nothing) ≡ Written (thrown_label entries x)

@@ -74,9 +74,7 @@ impl<'a> ProcedureWalk<'a> {
             (named ∷ named_atoms (value_label (scope_in self.now) (expression_of condition.now)))
             number) constraints.old.items constraints.new.items) }
     {
-        let left = self
-            .table
-            .left_of_value(self.alloc, pc, self.procedure, condition)?;
+        let left = self.left_of_value(pc, condition)?;
         self.table.add_inner(left, number, constraints)?;
         Ok(())
     }
@@ -94,9 +92,7 @@ impl<'a> ProcedureWalk<'a> {
             (exit_unknowns_around around.now) (raises (expression_of condition.now)))
             constraints.old.items constraints.new.items) }
     {
-        let left = self
-            .table
-            .left_of_raise(self.alloc, around.pc, self.procedure, condition)?;
+        let left = self.left_of_raise(around.pc, condition)?;
         let found = raises_of(condition);
         self.table
             .add_raised(self.alloc, &left, around, found, constraints)?;

@@ -73,9 +73,7 @@ impl<'a> ProcedureWalk<'a> {
             (map expression_of arguments.now)) constraints.old.items constraints.new.items) }
     {
         for (parameter, argument) in arguments.iter().enumerate() {
-            let left = self
-                .table
-                .left_of_value(self.alloc, own, self.procedure, argument)?;
+            let left = self.left_of_value(own, argument)?;
             let target = Target::ToParameter(callee, parameter);
             self.table
                 .add_rule(at, Rule::Call, left, target, constraints)?;
@@ -188,8 +186,7 @@ impl<'a> ProcedureWalk<'a> {
             constraints.old.items constraints.new.items) }
     {
         let table = self.table;
-        let procedure = self.procedure;
-        let raised = table.left_of_arguments(self.alloc, around.pc, procedure, arguments)?;
+        let raised = self.left_of_arguments(around.pc, arguments)?;
         table.add_inner(raised, number, constraints)?;
         let own = Atom::Unknown(number);
         let begin = left_of_pc(self.alloc, own)?;

@@ -1,4 +1,6 @@
 //! The parts of those statements that have many.
+ghost use Rattle.resolved.specs.declared.target.Target.TheVariants.{ToChannel, ToVariable};
+ghost use Rattle.solver.specs.declared.rule.Rule.TheVariants.{Assignment, Send};
 ghost use Rattle.std.specs.Prelude.{◌≡◌};
 
 use resolved::expression::Variable;
@@ -11,6 +13,31 @@ pub struct Demand {
     pub at: usize,
     pub rule: Rule,
     pub target: Target,
+}
+
+impl Demand {
+    /// What is demanded of a value that is assigned in this procedure.
+    pub fn of_assignment(at: usize, procedure: u32, variable: Variable) -> Demand
+        ensures { result
+            ≡ record { at = at; rule = Assignment; target = ToVariable procedure variable } }
+    {
+        Demand {
+            at,
+            rule: Rule::Assignment,
+            target: Target::ToVariable(procedure, variable),
+        }
+    }
+
+    /// What is demanded of a value that is sent.
+    pub fn of_send(at: usize, channel: u32) -> Demand
+        ensures { result ≡ record { at = at; rule = Send; target = ToChannel channel } }
+    {
+        Demand {
+            at,
+            rule: Rule::Send,
+            target: Target::ToChannel(channel),
+        }
+    }
 }
 
 /// A store at a byte into an array of this length.

@@ -1,14 +1,36 @@
 //! The calls of a program, and which entries the exit unknowns of exceptions had at each.
 ghost use Rattle.constraints.specs.Journals.{AreOrdered, AreUpToCall, entry_at, entry_from, moments_at, noted, noted_all};
 ghost use Rattle.constraints.specs.ExitUnknowns.{no_entry};
-ghost use Rattle.resolved.specs.declared.statement.Handler.{Handler};
-ghost use Rattle.resolved.specs.declared.tables.Thrown.{Thrown};
 ghost use Rattle.std.specs.Prelude.{IfOk, IsTrue, OnOk, [], length, map, ℕ, ◌++◌, ◌<◌, ◌∷◌, ◌≡◌, ◌≢◌, ◌≤◌};
 
 use crate::exit_unknowns::{ExitUnknown, entry_in};
 use resolved::statement::Handler;
 use resolved::tables::Thrown;
 use std::alloc::{AllocError, Global};
+
+/// What names an exception: a handler, or the declaration of what a procedure throws.
+pub(crate) trait NamesException {
+    ghost named_exception: { Self → ℕ };
+
+    fn exception(&self) -> u32
+        ensures { result ≡ named_exception self.now };
+}
+
+impl NamesException for Handler {
+    ghost named_exception = { λ handler. handler.exception };
+
+    fn exception(&self) -> u32 {
+        self.exception
+    }
+}
+
+impl NamesException for Thrown {
+    ghost named_exception = { λ declared. declared.exception };
+
+    fn exception(&self) -> u32 {
+        self.exception
+    }
+}
 
 /// A call: its procedure, the barrier of the exit unknowns under which it is made, the inner unknown that is its own label, and how many calls
 /// came before it.
@@ -112,43 +134,21 @@ impl Journal {
         Ok(())
     }
 
-    /// Notes the entries that the exceptions of handlers have from the next call on.
-    pub fn note_handled(
+    /// Notes the entries that the exceptions of handlers or declarations have from the next call on.
+    pub fn note_exceptions<T: NamesException>(
         &mut self,
-        handlers: &[Handler],
+        naming: &[T],
         thrown: &[ExitUnknown],
     ) -> Result<(), AllocError>
         ensures calls { OnOk result (self.new.calls ≡ self.old.calls) }
         ensures moments { OnOk result ((x : ℕ) → moments_at self.new.moments.items x
             ≡ noted_all (length self.old.moments.items) (length self.old.calls.items) thrown.now
-            (map (λ (handler : Handler). handler.exception) handlers.now) x
-            (moments_at self.old.moments.items x)) }
+            (map T.named_exception naming.now) x (moments_at self.old.moments.items x)) }
         ensures count { OnOk result (length self.new.moments.items
             ≡ length self.old.moments.items) }
     {
-        for handler in handlers {
-            let exception = handler.exception;
-            self.note(exception, entry_in(thrown, exception))?;
-        }
-        Ok(())
-    }
-
-    /// Notes the entries that declared exceptions have from the next call on.
-    pub fn note_declared(
-        &mut self,
-        throws: &[Thrown],
-        thrown: &[ExitUnknown],
-    ) -> Result<(), AllocError>
-        ensures calls { OnOk result (self.new.calls ≡ self.old.calls) }
-        ensures moments { OnOk result ((x : ℕ) → moments_at self.new.moments.items x
-            ≡ noted_all (length self.old.moments.items) (length self.old.calls.items) thrown.now
-            (map (λ (declared : Thrown). declared.exception) throws.now) x
-            (moments_at self.old.moments.items x)) }
-        ensures count { OnOk result (length self.new.moments.items
-            ≡ length self.old.moments.items) }
-    {
-        for declared in throws {
-            let exception = declared.exception;
+        for one in naming {
+            let exception = one.exception();
             self.note(exception, entry_in(thrown, exception))?;
         }
         Ok(())

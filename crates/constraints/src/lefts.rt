@@ -1,10 +1,12 @@
 //! Left sides that begin with the program-counter label (pc) of a statement.
-ghost use Rattle.constraints.specs.ByTable.{scope_at, program_in, IsLeftFromBy};
+ghost use Rattle.constraints.specs.ByTable.{program_in, IsLeftFromBy};
+ghost use Rattle.constraints.specs.ByWalk.{scope_in};
 ghost use Rattle.gathering.specs.Walk.{raise_atoms, raise_atoms_all};
 ghost use Rattle.resolved.specs.Labelled.{label_of, one, value_label};
 ghost use Rattle.resolved.specs.TreeOf.{expression_of};
 ghost use Rattle.std.specs.Prelude.{IfOk, [], map, ◌∷◌, ◌≡◌};
 
+use crate::statements::ProcedureWalk;
 use crate::table::Table;
 use resolved::expression::Expression;
 use resolved::target::Target;
@@ -30,53 +32,37 @@ impl<'a> Table<'a> {
         self.add_label(target, &mut left)?;
         Ok(left)
     }
+}
 
-    /// The pc, and the label of the value of an expression in this procedure.
-    pub fn left_of_value(
-        &self,
-        alloc: Global,
-        pc: Atom,
-        procedure: u32,
-        expression: &Expression,
-    ) -> Result<Left, AllocError>
-        ensures { IfOk result (λ left. IsLeftFromBy self.now pc
-            (value_label (scope_at self.now procedure) (expression_of expression.now)) left.items) }
+impl<'a> ProcedureWalk<'a> {
+    /// The pc, and the label of the value of an expression.
+    pub fn left_of_value(&self, pc: Atom, expression: &Expression) -> Result<Left, AllocError>
+        ensures { IfOk result (λ left. IsLeftFromBy self.now.table.now pc
+            (value_label (scope_in self.now) (expression_of expression.now)) left.items) }
     {
-        let mut left = left_of_pc(alloc, pc)?;
-        self.add_value(procedure, expression, &mut left)?;
+        let mut left = left_of_pc(self.alloc, pc)?;
+        self.table.add_value(self.procedure, expression, &mut left)?;
         Ok(left)
     }
 
-    /// The pc, and what decides whether an expression in this procedure raises an exception.
-    pub fn left_of_raise(
-        &self,
-        alloc: Global,
-        pc: Atom,
-        procedure: u32,
-        expression: &Expression,
-    ) -> Result<Left, AllocError>
-        ensures { IfOk result (λ left. IsLeftFromBy self.now pc
-            (raise_atoms (scope_at self.now procedure) (expression_of expression.now)) left.items) }
+    /// The pc, and what decides whether an expression raises an exception.
+    pub fn left_of_raise(&self, pc: Atom, expression: &Expression) -> Result<Left, AllocError>
+        ensures { IfOk result (λ left. IsLeftFromBy self.now.table.now pc
+            (raise_atoms (scope_in self.now) (expression_of expression.now)) left.items) }
     {
-        let mut left = left_of_pc(alloc, pc)?;
-        self.add_raise(procedure, expression, &mut left)?;
+        let mut left = left_of_pc(self.alloc, pc)?;
+        self.table.add_raise(self.procedure, expression, &mut left)?;
         Ok(left)
     }
 
     /// The pc, and what decides whether one of the arguments of a call raises an exception.
-    pub fn left_of_arguments(
-        &self,
-        alloc: Global,
-        pc: Atom,
-        procedure: u32,
-        arguments: &[Expression],
-    ) -> Result<Left, AllocError>
-        ensures { IfOk result (λ left. IsLeftFromBy self.now pc
-            (raise_atoms_all (scope_at self.now procedure) (map expression_of arguments.now))
-            left.items) }
+    pub fn left_of_arguments(&self, pc: Atom, arguments: &[Expression]) -> Result<Left, AllocError>
+        ensures { IfOk result (λ left. IsLeftFromBy self.now.table.now pc
+            (raise_atoms_all (scope_in self.now) (map expression_of arguments.now)) left.items) }
     {
-        let mut left = left_of_pc(alloc, pc)?;
-        self.add_raise_all(procedure, arguments, &mut left)?;
+        let mut left = left_of_pc(self.alloc, pc)?;
+        self.table
+            .add_raise_all(self.procedure, arguments, &mut left)?;
         Ok(left)
     }
 }

@@ -15,7 +15,6 @@ mod laying;
 mod lefts;
 mod merging;
 mod pieces;
-mod plain;
 mod procedures;
 mod program;
 mod progress;

@@ -195,7 +195,9 @@ impl<'a> ProcedureWalk<'a> {
             &mut progress.thrown,
             &mut saved,
         )?;
-        progress.journal.note_handled(handlers, &progress.thrown)?;
+        progress
+            .journal
+            .note_exceptions(handlers, &progress.thrown)?;
         let numbers = numbers_of(self.alloc, handlers, &progress.thrown)?;
         Ok(Tried {
             exit_unknowns: inner,

@@ -143,7 +143,7 @@ impl<'a> ProcedureWalk<'a> {
         )?;
         progress
             .journal
-            .note_declared(&procedure.throws, &progress.thrown)?;
+            .note_exceptions(&procedure.throws, &progress.thrown)?;
         let only = self.exits_at(progress.index).is_single_of_procedure();
         let exit_unknowns = end_exit_unknowns(number, barrier, level, only);
         let begin = self.table.part(Target::ToBegin(self.procedure));

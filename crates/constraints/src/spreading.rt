@@ -313,7 +313,8 @@ impl<'a> Spreading<'a> {
     }
 }
 
-// Keeps the flows of exceptions from some calls, and gives a part that stands for all of the calls.
+// Keeps the flows of exceptions from some calls, and gives a part that stands for all of the calls. Exceptions that do not have one
+// exit unknown at all of the calls are spread in halves, which end at single calls, 64 levels down at most.
 #[cycle(spread)]
 fn spread(
     of: &Spreading,
@@ -337,39 +338,21 @@ fn spread(
         return of.single(one, labels, kept, made);
     }
     let parted = of.parted(one.barrier, calls, labels)?;
-    let node = spread_halves(of, calls, &parted.varied, kept, made)?;
-    of.keep_fixed(one, node, &parted.fixed, kept, made)?;
-    Ok(node)
-}
-
-// The same for exceptions that do not have one exit unknown at all of the calls, whose halves end at single calls, 64 levels down at most.
-#[cycle(spread)]
-fn spread_halves(
-    of: &Spreading,
-    calls: &[Called],
-    varied: &[ThrownLabel],
-    kept: &mut Vec<Parts>,
-    made: &mut Made,
-) -> Result<Atom, AllocError>
-    requires ordered { AreInOrder of.now.journal.now }
-    requires several { 1 < length calls.now }
-    requires room { made.old.number + length calls.now ≤ most_unknowns }
-    ensures fewer { OnOk result (made.new.number < made.old.number + length calls.now) }
-    ensures count { OnOk result (length kept.new.items ≡ length kept.old.items) }
-    ensures spread { IfOk result (λ atom. AreSomeTaken (IsOver of.now.following.now)
-        (λ own. AreSpreadToBy of.now varied.now calls.now (made_list made.old.number [])
-        (made_list made.new.number own) atom) (rows_of kept.old.items) (rows_of kept.new.items)
-        made.old.constraints.items made.new.constraints.items) }
-{
+    let varied: &[ThrownLabel] = &parted.varied;
+    let fixed: &[ThrownLabel] = &parted.fixed;
     if varied.is_empty() {
         let owns = of.owns(calls)?;
-        return of.keep_joined(owns, kept, made);
+        let node = of.keep_joined(owns, kept, made)?;
+        of.keep_fixed(one, node, fixed, kept, made)?;
+        return Ok(node);
     }
     let (first, second) = calls.split_at(calls.len() / 2);
-    let one = spread(of, first, varied, kept, made)?;
-    let other = spread(of, second, varied, kept, made)?;
-    let both = vec![in of.alloc; one, other]?;
-    of.keep_joined(both, kept, made)
+    let left = spread(of, first, varied, kept, made)?;
+    let right = spread(of, second, varied, kept, made)?;
+    let both = vec![in of.alloc; left, right]?;
+    let node = of.keep_joined(both, kept, made)?;
+    of.keep_fixed(one, node, fixed, kept, made)?;
+    Ok(node)
 }
 
 // This many rows without calls.

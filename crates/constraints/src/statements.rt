@@ -7,7 +7,7 @@ ghost use Rattle.gathering.specs.Names.{NamedAtom};
 ghost use Rattle.gathering.specs.Walk.{flow, raised_flows, target_constraint};
 ghost use Rattle.path_map.specs.Exceptions.{AreRaised};
 ghost use Rattle.resolved.specs.Exits.{raises};
-ghost use Rattle.resolved.specs.Tree.{Assign, Clear, Leave, Receive, ReturnWith, Send};
+ghost use Rattle.resolved.specs.Tree.{Clear, Leave, Receive, ReturnWith};
 ghost use Rattle.resolved.specs.TreeOf.{expression_of, some_expression_of};
 ghost use Rattle.solver.specs.Rule.{rule_number};
 ghost use Rattle.std.specs.Prelude.{List, OnOk, ℕ, ◌++◌};
@@ -58,8 +58,8 @@ impl<'a> ProcedureWalk<'a> {
         Ok(())
     }
 
-    // Adds what a value flows to, and the exits of a statement that goes on at an exit once it has the value.
-    fn add_valued(
+    /// Adds what a value flows to, and the exits of a statement that goes on at an exit once it has the value.
+    pub fn add_valued(
         &self,
         demand: Demand,
         value: &Expression,
@@ -73,60 +73,12 @@ impl<'a> ProcedureWalk<'a> {
             (expression_of value.now) demand.target exit)
             constraints.old.items constraints.new.items) }
     {
-        let valued = self
-            .table
-            .left_of_value(self.alloc, around.pc, self.procedure, value)?;
+        let valued = self.left_of_value(around.pc, value)?;
         self.table
             .add_rule(demand.at, demand.rule, valued, demand.target, constraints)?;
-        let left = self
-            .table
-            .left_of_raise(self.alloc, around.pc, self.procedure, value)?;
+        let left = self.left_of_raise(around.pc, value)?;
         let found = raises_of(value);
         self.add_exits(&left, around, exit, found, constraints)?;
-        Ok(())
-    }
-
-    /// Adds what is gathered of an assignment.
-    pub fn add_assign(
-        &self,
-        at: usize,
-        variable: Variable,
-        value: &Expression,
-        around: &Around,
-        constraints: &mut Vec<Constraint<Option<Target>>>,
-    ) -> Result<(), AllocError>
-        ensures { OnOk result (IsSimpleBy self.now around.now
-            (Assign at variable (expression_of value.now))
-            constraints.old.items constraints.new.items) }
-    {
-        let demand = Demand {
-            at,
-            rule: Rule::Assignment,
-            target: Target::ToVariable(self.procedure, variable),
-        };
-        self.add_valued(demand, value, Exit::Normal, around, constraints)?;
-        Ok(())
-    }
-
-    /// Adds what is gathered of a send.
-    pub fn add_send(
-        &self,
-        at: usize,
-        channel: u32,
-        value: &Expression,
-        around: &Around,
-        constraints: &mut Vec<Constraint<Option<Target>>>,
-    ) -> Result<(), AllocError>
-        ensures { OnOk result (IsSimpleBy self.now around.now
-            (Send at channel (expression_of value.now))
-            constraints.old.items constraints.new.items) }
-    {
-        let demand = Demand {
-            at,
-            rule: Rule::Send,
-            target: Target::ToChannel(channel),
-        };
-        self.add_valued(demand, value, Exit::Normal, around, constraints)?;
         Ok(())
     }
 

@@ -8,12 +8,12 @@ ghost use Rattle.std.specs.Prelude.{IfOk, List, OnOk, drop, length, map, â„•, â—
 
 use crate::around::Context;
 use crate::exit_unknowns::{ExitUnknowns, put_back};
-use crate::forms::{ArrayStore, CallSite, LoopSite};
+use crate::forms::{ArrayStore, CallSite, Demand, LoopSite};
 use crate::progress::Progress;
 use crate::statements::ProcedureWalk;
 use path_map::Exits;
 use resolved::expression::Expression;
-use resolved::statement::{Handler, Statement};
+use resolved::statement::{Exit, Handler, Statement};
 use solver::Atom;
 use std::alloc::AllocError;
 
@@ -127,20 +127,27 @@ fn walk_form(
     ensures { OnOk result (IsFormWalkedBy walk.now context (statement_of statement.now)
         progress.old progress.new) }
 {
+    let around = context.around(&progress.thrown);
     match statement {
         Statement::Assign(at, variable, value) => {
-            walk.walk_assign(*at, *variable, value, context, progress)
+            let demand = Demand::of_assignment(*at, walk.procedure, *variable);
+            let exit = Exit::Normal;
+            walk.add_valued(demand, value, exit, &around, &mut progress.constraints)
         }
-        Statement::Clear(at, slot) => walk.walk_clear(*at, *slot, context, progress),
+        Statement::Clear(at, slot) => {
+            walk.add_clear(*at, *slot, &around, &mut progress.constraints)
+        }
         Statement::Store(at, array, length, index, value) => {
             let store = ArrayStore::new(*at, *array, *length);
-            walk.walk_store(store, index, value, context, progress)
+            walk.add_store(store, index, value, &around, &mut progress.constraints)
         }
         Statement::Receive(at, channel, target) => {
-            walk.walk_receive(*at, *channel, *target, context, progress)
+            walk.add_receive(*at, *channel, *target, &around, &mut progress.constraints)
         }
         Statement::Send(at, channel, value) => {
-            walk.walk_send(*at, *channel, value, context, progress)
+            let demand = Demand::of_send(*at, *channel);
+            let exit = Exit::Normal;
+            walk.add_valued(demand, value, exit, &around, &mut progress.constraints)
         }
         Statement::Call(at, callee, arguments, target) => {
             let site = CallSite::new(*at, *callee, *target);
@@ -153,8 +160,12 @@ fn walk_form(
             let site = LoopSite::new(*at, *number);
             walk_while(walk, site, condition, body, context, progress)
         }
-        Statement::Leave(at, exit) => walk.walk_leave(*at, *exit, context, progress),
-        Statement::Return(at, value) => walk.walk_return(*at, value, context, progress),
+        Statement::Leave(at, exit) => {
+            walk.add_leave(*at, *exit, &around, &mut progress.constraints)
+        }
+        Statement::Return(at, value) => {
+            walk.add_return(*at, value, &around, &mut progress.constraints)
+        }
         Statement::Try(_, block, handlers) => walk_try(walk, block, handlers, context, progress),
         Statement::Nested(_, block) => walk_block(walk, block, context, progress),
     }
@@ -234,7 +245,9 @@ fn walk_try(
     };
     walk_block(walk, block, inside, progress)?;
     put_back(tried.saved, &mut progress.thrown);
-    progress.journal.note_handled(handlers, &progress.thrown)?;
+    progress
+        .journal
+        .note_exceptions(handlers, &progress.thrown)?;
     walk_handlers(
         walk,
         handlers,

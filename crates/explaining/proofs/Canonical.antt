@@ -1,8 +1,7 @@
 -- Each label has a canonical one that flows both ways with it.
-use Rattle.std.proofs.Common.{◌≡◌, ◌∙◌, ◌<◌, ap, [], get_or, length, map, subst, sym, arith}
-use Rattle.std.specs.Prelude.{Contains, IsTrue}
-use Rattle.std.proofs.lemmas.List.{get_or-map, length-map}
-use Rattle.std.proofs.lemmas.List.Elements.{All-map, Contains-get_or}
+use Rattle.std.proofs.Common.{map, subst}
+use Rattle.std.specs.Prelude.{IsTrue}
+use Rattle.std.proofs.lemmas.List.Elements.{All-map}
 use Rattle.common.proofs.Cases.{contained_map, contained_map_only}
 use Rattle.principals.specs.ActsFor.{PrincipalHierarchy}
 use Rattle.labels.specs.Canonical.{IsCanonicalLabel, IsCanonicalPolicy, written_label, written_policy}

@@ -7,7 +7,9 @@ use Rattle.modules.specs.Isolated.{module_view}
 use Rattle.modules.specs.Machine as machine
 use Rattle.modules.specs.Machine.{Machine, Running, Ended, Stuck, Ending, MachineCode, exec, machine_code, sent_after, sent_of, step}
 use Rattle.channels.specs.World.{InputNumbers, numbers_of_channel}
-use Rattle.verifier.specs.Safety.{HasTransition, IsNeverStuck}
+use Rattle.verifier.specs.Safety.{IsNeverStuck}
+use Rattle.verifier.proofs.Stuck.{has_transition}
+use Rattle.verifier.specs.SignatureParts.{HasTransition}
 use Rattle.machine.specs.Run.{IsRunning, ReportsStatus, WasRunning}
 use Rattle.machine.specs.declared.status.Status.{Status}
 use Rattle.machine.specs.declared.status.Status.TheVariants as status
@@ -110,7 +112,7 @@ pub record Session (code : List ℕ) (world : List InputNumbers) (under : Option
 module _ (code : List ℕ) (world : List InputNumbers) (under : Option PrincipalHierarchy) (m : ModuleContents) (can : CanOpen code world under m)
     (never_stuck : IsNeverStuck m) (p : ℕ) (there : p < length (hierarchy_under under m).names) (n : ℕ) where
   run : Stop (machine_code m) n (first_machine m world)
-  run = stop (machine_code m) n (first_machine m world) (never_stuck (numbers_of_channel m world)) tt
+  run = stop (machine_code m) n (first_machine m world) (λ k. has_transition _ (never_stuck (numbers_of_channel m world) k)) tt
 
   abbrev empty : HostContents
   empty = record { next = 0; sessions = [] }

@@ -3,29 +3,31 @@
 use Rattle.std.specs.Prelude.{ℕ, List, ◌++◌, codes, Bool, IsTrue}
 use Rattle.std.specs.Fmt.{decimal}
 use Rattle.std.specs.String.{string_bytes}
-use Rattle.modules.specs.RefusalKinds.{format_refusal_number, format_refusal_words}
+use Rattle.common.specs.Message.{MessageContents}
+use Rattle.modules.specs.RefusalKinds.{format_message}
 use Rattle.channels.specs.declared.kind.WorldRefusal.{WorldRefusal}
-use Rattle.channels.specs.RefusalKinds.{world_number, world_words}
-use Rattle.acceptance.specs.RefusalKinds.{refusal_kind_number, refusal_kind_words}
+use Rattle.channels.specs.RefusalKinds.{world_message}
+use Rattle.acceptance.specs.RefusalKinds.{refusal_message}
 use Rattle.acceptance.specs.declared.kind.RefusalKind.TheVariants.{NotUtf8}
 use Rattle.checker.specs.declared.fault.Refusal.{Refusal}
 use Rattle.resolved.specs.Exceptions.{exception_name}
 use Rattle.machine.specs.declared.status.Status.{Status}
 use Rattle.machine.specs.declared.status.Status.TheVariants as status
-use Rattle.verifier.specs.RefusalKinds.{code_refusal_number, code_refusal_words}
+use Rattle.verifier.specs.RefusalKinds.{code_message}
 use Rattle.verifier.specs.declared.loading.LoadRefusal.{LoadRefusal}
 use Rattle.verifier.specs.declared.loading.LoadRefusal.TheVariants.{Bytes, Code}
-use Rattle.host.specs.RefusalKinds.{refusal_number, refusal_words}
+use Rattle.host.specs.RefusalKinds.{host_message}
 use Rattle.host.specs.declared.fault.HostRefusal.TheVariants.{NotContained}
 use Rattle.flowc.specs.declared.fault.PerformFault.{PerformFault}
 use Rattle.flowc.specs.declared.fault.PerformFault.TheVariants.{Refused, CannotWrite, NoMemory}
-use Rattle.principals.specs.declared.fault.TheConstants.{UNKNOWN_PRINCIPAL, UNKNOWN_PRINCIPAL_WORDS}
+use Rattle.principals.specs.declared.fault.HierarchyRefusalKind.TheVariants.{UnknownPrincipal}
+use Rattle.principals.specs.RefusalKinds.{hierarchy_message}
 
 -- ---- lines of refusals
 
 -- what a line says after the place of a refusal: a colon, the number, the words, and a line feed
-abbrev pub saying : (number : ℕ) → (words : List ℕ) → List ℕ
-saying number words = codes ": " ++ (decimal number ++ (codes " " ++ (words ++ codes "\n")))
+abbrev pub saying : MessageContents → List ℕ
+saying message = codes ": " ++ (decimal message.number ++ (codes " " ++ (message.words ++ codes "\n")))
 
 -- PATH:NUMBER and PATH:NUMBER:NUMBER, and what follows
 abbrev pub at_one : (path : List ℕ) → (first : ℕ) → (rest : List ℕ) → List ℕ
@@ -36,31 +38,28 @@ at_two path first second rest = at_one path first (codes ":" ++ (decimal second 
 
 -- why the bytes of a module are refused: at a byte offset; or where its code is, at a procedure and a byte offset of it
 abbrev pub module_line : (path : List ℕ) → LoadRefusal → List ℕ
-module_line path (Bytes refusal) =
-    at_one path refusal.offset (saying (format_refusal_number refusal.kind) (format_refusal_words refusal.kind))
-module_line path (Code refusal) =
-    at_two path refusal.procedure refusal.offset (saying (code_refusal_number refusal.kind) (code_refusal_words refusal.kind))
+module_line path (Bytes refusal) = at_one path refusal.offset (saying (format_message refusal.kind))
+module_line path (Code refusal) = at_two path refusal.procedure refusal.offset (saying (code_message refusal.kind))
 
 -- bytes that are to be the text of a world and are no text
 abbrev pub encoding_line : (path : List ℕ) → List ℕ
-encoding_line path = at_one path 1 (saying (refusal_kind_number NotUtf8) (refusal_kind_words NotUtf8))
+encoding_line path = at_one path 1 (saying (refusal_message NotUtf8))
 
 -- what is wrong with the text of a world, at a line
 abbrev pub world_line : (path : List ℕ) → WorldRefusal → List ℕ
-world_line path refusal = at_one path refusal.line (saying (world_number refusal.kind) (world_words refusal.kind))
+world_line path refusal = at_one path refusal.line (saying (world_message refusal.kind))
 
 -- what is wrong with a hierarchy text or a source, at a line and a column
 abbrev pub text_line : (path : List ℕ) → Refusal → List ℕ
-text_line path refusal =
-    at_two path refusal.at.line refusal.at.column (saying (refusal_kind_number refusal.kind) (refusal_kind_words refusal.kind))
+text_line path refusal = at_two path refusal.at.line refusal.at.column (saying (refusal_message refusal.kind))
 
 -- the hierarchy of a text does not contain that of a module
 abbrev pub not_contained_line : (path : List ℕ) → List ℕ
-not_contained_line path = at_two path 1 1 (saying (refusal_number NotContained) (refusal_words NotContained))
+not_contained_line path = at_two path 1 1 (saying (host_message NotContained))
 
 -- no principal of a hierarchy has the name of an observer
 abbrev pub observer_line : (name : List ℕ) → List ℕ
-observer_line name = name ++ saying UNKNOWN_PRINCIPAL UNKNOWN_PRINCIPAL_WORDS.now
+observer_line name = name ++ saying (hierarchy_message UnknownPrincipal)
 
 -- ---- failures
 

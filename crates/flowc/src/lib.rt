@@ -23,7 +23,7 @@ pub use channels::{
 };
 pub use checker::{Checked, Fault, Refusal, RefusedFlow, check_texts};
 pub use command_line::{DEFAULT_STEPS, MAX_STEPS, Task, TaskFault, TaskRefusal, task};
-pub use common::OrNoMemory;
+pub use common::{Message, OrNoMemory, Reported};
 pub use compiler::compile;
 pub use host::{Answer, Event, Host, HostFault, HostRefusal, Id, MAX_SESSIONS};
 pub use lexer::Place;

@@ -3,7 +3,7 @@
 use Rattle.std.specs.Prelude.{◌≡◌, ℕ, List, map, Option, Some, None}
 use Rattle.std.specs.Option.{option_map}
 use Rattle.common.specs.declared.fault.OrNoMemory.TheVariants as faults
-use Rattle.host.specs.RefusalKinds.{refusal_number}
+use Rattle.host.specs.RefusalKinds.{host_message}
 use Rattle.host.specs.Meaning.{HostContents, HostEvent, Turn, View, HostAnswer, Opened, Turned, Viewed, Closed, Refused, MayAnswer, HasSent, IsNotOpen}
 use Rattle.host.specs.Values.{HostRuns, host_of}
 use Rattle.host.specs.declared.fault.HostRefusal.{HostRefusal}
@@ -54,7 +54,7 @@ SaysPlaceOfHost UnknownPrincipal reply = reply.text ≡ 5
 SaysPlaceOfHost NotContained reply = reply.text ≡ 5
 
 pub record SaysHostRefusal (refusal : HostRefusal) (reply : Reply) : Type 0 where
-  pub number : reply.number ≡ refusal_number refusal
+  pub number : reply.number ≡ (host_message refusal).number
   pub place : SaysPlaceOfHost refusal reply
 
 -- the host may refuse the event for what the reply says

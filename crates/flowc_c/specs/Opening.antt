@@ -3,22 +3,23 @@
 -- Source: our own.
 use Rattle.std.specs.Prelude.{◌≡◌, ℕ, List, Option, Some, None, Result, Ok, Err, IsUtf8, Contains}
 use Rattle.acceptance.specs.Accepted.{HasHierarchy}
-use Rattle.acceptance.specs.RefusalKinds.{refusal_kind_number, refusal_kind_words}
+use Rattle.acceptance.specs.RefusalKinds.{refusal_message}
 use Rattle.acceptance.specs.declared.kind.RefusalKind.TheVariants.{NotUtf8}
 use Rattle.bytecode.specs.Decoded.{first_refusal}
-use Rattle.channels.specs.RefusalKinds.{world_number, world_words}
+use Rattle.channels.specs.RefusalKinds.{world_message}
 use Rattle.channels.specs.World.{InputNumbers, input_names}
 use Rattle.channels.specs.WorldText.{IsWorldRefusal, IsWorldText, lines_of, world_of}
 use Rattle.checker.specs.Reported.{IsHierarchyFault}
 use Rattle.common.specs.Answers.{IfRefused}
+use Rattle.common.specs.Message.{MessageContents}
 use Rattle.common.specs.declared.fault.OrNoMemory.{OrNoMemory}
 use Rattle.common.specs.declared.fault.OrNoMemory.TheVariants as faults
-use Rattle.host.specs.RefusalKinds.{refusal_number, refusal_words}
+use Rattle.host.specs.RefusalKinds.{host_message}
 use Rattle.host.specs.Meaning.{HostContents, Open, Opened, Refused, MayAnswer}
 use Rattle.host.specs.Values.{HostRuns, host_of}
 use Rattle.host.specs.declared.hosts.TheConstants.{MAX_SESSIONS}
 use Rattle.modules.specs.Contents.{ModuleContents}
-use Rattle.modules.specs.RefusalKinds.{format_refusal_number, format_refusal_words}
+use Rattle.modules.specs.RefusalKinds.{format_message}
 use Rattle.modules.specs.ByteFormat.{Spells}
 use Rattle.modules.specs.Format.{module_file}
 use Rattle.principals.specs.ActsFor.{HasName, PrincipalHierarchy}
@@ -116,19 +117,12 @@ OpensSessionUnder old bytes text hierarchy id new =
 
 -- ---- refusals
 
-abbrev pub open_refusal_number : OpenRefusal → ℕ
-open_refusal_number (Bytes refusal) = format_refusal_number refusal.kind
-open_refusal_number Encoding = refusal_kind_number NotUtf8
-open_refusal_number (World refusal) = world_number refusal.kind
-open_refusal_number (Hierarchy refusal) = refusal_kind_number refusal.kind
-open_refusal_number (Host refusal) = refusal_number refusal
-
-abbrev pub open_refusal_words : OpenRefusal → List ℕ
-open_refusal_words (Bytes refusal) = format_refusal_words refusal.kind
-open_refusal_words Encoding = refusal_kind_words NotUtf8
-open_refusal_words (World refusal) = world_words refusal.kind
-open_refusal_words (Hierarchy refusal) = refusal_kind_words refusal.kind
-open_refusal_words (Host refusal) = refusal_words refusal
+abbrev pub open_message : OpenRefusal → MessageContents
+open_message (Bytes refusal) = format_message refusal.kind
+open_message Encoding = refusal_message NotUtf8
+open_message (World refusal) = world_message refusal.kind
+open_message (Hierarchy refusal) = refusal_message refusal.kind
+open_message (Host refusal) = host_message refusal
 
 -- what is refused, and where: the bytes of the module from a byte on, the world at its first wrong line or at its first line where
 -- it is no text, the text of the hierarchy at a line and a column, or what the host refuses
@@ -141,7 +135,7 @@ SaysPlaceOfOpen (Hierarchy refusal) reply =
 SaysPlaceOfOpen (Host refusal) reply = SaysPlaceOfHost refusal reply
 
 pub record SaysOpenRefusal (refusal : OpenRefusal) (reply : Reply) : Type 0 where
-  pub number : reply.number ≡ open_refusal_number refusal
+  pub number : reply.number ≡ (open_message refusal).number
   pub place : SaysPlaceOfOpen refusal reply
 
 -- the reply says why the host of a handle opens no session, and the buffer has the words
@@ -151,7 +145,7 @@ pub record TellsOpenRefusal (old : Option HostContents) (bytes text : List ℕ) 
   pub refusal : OpenRefusal
   pub cannot : CannotOpenOn host bytes text None refusal
   pub says : SaysOpenRefusal refusal reply
-  pub words : IsPutIfFits (open_refusal_words refusal) reply.length before after
+  pub words : IsPutIfFits (open_message refusal).words reply.length before after
 
 -- the same of one under the hierarchy of a text
 pub record TellsUnderRefusal (old : Option HostContents) (bytes text hierarchy : List ℕ) (reply : Reply) (before after : List ℕ)
@@ -161,7 +155,7 @@ pub record TellsUnderRefusal (old : Option HostContents) (bytes text hierarchy :
   pub refusal : OpenRefusal
   pub cannot : CannotOpenUnder host bytes text hierarchy refusal
   pub says : SaysOpenRefusal refusal reply
-  pub words : IsPutIfFits (open_refusal_words refusal) reply.length before after
+  pub words : IsPutIfFits (open_message refusal).words reply.length before after
 
 -- what a reply says of an opening, and what the buffer of the words then holds
 abbrev pub SaysOpening : Option (Result ℕ (OrNoMemory OpenRefusal)) → Reply → (before after : List ℕ) → Type 0
@@ -170,7 +164,7 @@ SaysOpening (Some (Ok id)) reply before after = (reply.status ≡ DONE) × (repl
 SaysOpening (Some (Err faults.NoMemory)) reply before after = (reply.status ≡ NO_MEMORY) × (after ≡ before)
 SaysOpening (Some (Err (faults.Refused refusal))) reply before after =
     (reply.status ≡ REFUSED) × SaysOpenRefusal refusal reply
-    × IsPutIfFits (open_refusal_words refusal) reply.length before after
+    × IsPutIfFits (open_message refusal).words reply.length before after
 
 -- ---- principals
 

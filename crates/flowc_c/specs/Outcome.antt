@@ -1,13 +1,13 @@
 -- What an outcome says of a refusal, in numbers.
 -- Source: our own.
 use Rattle.std.specs.Prelude.{◌≡◌, ℕ, List}
-use Rattle.acceptance.specs.RefusalKinds.{refusal_kind_number, refusal_kind_words}
+use Rattle.acceptance.specs.RefusalKinds.{refusal_message}
 use Rattle.acceptance.specs.declared.kind.Text.{Text}
 use Rattle.acceptance.specs.declared.kind.Text.TheVariants as texts
 use Rattle.checker.specs.Reported.{IsFirstFault}
 use Rattle.checker.specs.declared.fault.Refusal.{Refusal}
 use Rattle.verifier.specs.Loaded.{CannotLoad}
-use Rattle.verifier.specs.RefusalKinds.{load_refusal_number, load_refusal_words}
+use Rattle.verifier.specs.RefusalKinds.{load_message}
 use Rattle.verifier.specs.declared.loading.LoadRefusal.{LoadRefusal}
 use Rattle.verifier.specs.declared.loading.LoadRefusal.TheVariants.{Bytes, Code}
 use Rattle.flowc_c.specs.Buffer.{IsPutIfFits}
@@ -22,7 +22,7 @@ text_number texts.Source = 1
 
 -- the outcome has the number of the refusal's kind, its text and its place
 pub record SaysRefusal (refusal : Refusal) (outcome : Outcome) : Type 0 where
-  pub number : outcome.number ≡ refusal_kind_number refusal.kind
+  pub number : outcome.number ≡ (refusal_message refusal.kind).number
   pub text : outcome.text ≡ text_number refusal.text
   pub line : outcome.line ≡ refusal.at.line
   pub column : outcome.column ≡ refusal.at.column
@@ -38,7 +38,7 @@ pub record TellsFirstFault (hierarchy source : List ℕ) (outcome : Outcome) (ol
   pub refusal : Refusal
   pub first : IsFirstFault hierarchy source refusal
   pub says : SaysRefusal refusal outcome
-  pub words : IsPutIfFits (refusal_kind_words refusal.kind) outcome.length old new
+  pub words : IsPutIfFits (refusal_message refusal.kind).words outcome.length old new
 
 -- ---- modules
 
@@ -49,7 +49,7 @@ SaysPlaceOf (Code refusal) outcome =
     (outcome.text ≡ 3) × (outcome.procedure ≡ refusal.procedure) × (outcome.offset ≡ refusal.offset)
 
 pub record SaysModuleRefusal (refusal : LoadRefusal) (outcome : Outcome) : Type 0 where
-  pub number : outcome.number ≡ load_refusal_number refusal
+  pub number : outcome.number ≡ (load_message refusal).number
   pub place : SaysPlaceOf refusal outcome
 
 -- the outcome says why bytes are not loaded, and the buffer has the words
@@ -57,4 +57,4 @@ pub record TellsModuleRefusal (bytes : List ℕ) (outcome : Outcome) (old new : 
   pub refusal : LoadRefusal
   pub cannot : CannotLoad bytes refusal
   pub says : SaysModuleRefusal refusal outcome
-  pub words : IsPutIfFits (load_refusal_words refusal) outcome.length old new
+  pub words : IsPutIfFits (load_message refusal).words outcome.length old new

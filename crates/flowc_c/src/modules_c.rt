@@ -5,13 +5,13 @@ ghost use Rattle.flowc_c.specs.Outcome.{SaysModuleRefusal, TellsModuleRefusal};
 ghost use Rattle.flowc_c.specs.Buffer.{IsPutIfFits};
 ghost use Rattle.flowc_c.specs.Results.{NeedsListing, PutsListing};
 ghost use Rattle.listing.specs.Listing.{listing_text};
-ghost use Rattle.verifier.specs.RefusalKinds.{load_refusal_words};
+ghost use Rattle.verifier.specs.RefusalKinds.{load_message};
 ghost use Rattle.std.specs.Prelude.{◌≡◌, IfOk};
 
 use crate::buffer::{deliver, deliver_words};
 use crate::outcome::{DONE, NO_MEMORY, Outcome, REFUSED, TOO_SHORT, ended, refuse_module};
 use channels::{Device, ViewFault};
-use flowc::{LoadRefusal, Module, OrNoMemory, load};
+use flowc::{LoadRefusal, Module, OrNoMemory, Reported, load};
 use listing::write_listing;
 use std::alloc::Global;
 
@@ -54,7 +54,7 @@ fn listing_of(alloc: Global, program: &Module) -> Result<Vec<u8>, ViewFault>
 fn tell(refusal: LoadRefusal, out: &mut [u8]) -> Outcome
     ensures status { result.status ≡ REFUSED }
     ensures says { SaysModuleRefusal refusal result }
-    ensures words { IsPutIfFits (load_refusal_words refusal) result.length out.old out.new }
+    ensures words { IsPutIfFits (load_message refusal).words result.length out.old out.new }
 {
     let length = deliver_words(refusal.words(), out);
     refuse_module(refusal, length)

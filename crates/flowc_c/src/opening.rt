@@ -4,7 +4,7 @@ ghost use Rattle.acceptance.specs.Accepted.{HasHierarchy};
 ghost use Rattle.channels.specs.World.{input_names};
 ghost use Rattle.channels.specs.WorldText.{IsWorldText, lines_of, world_of};
 ghost use Rattle.common.specs.Answers.{IfRefused};
-ghost use Rattle.flowc_c.specs.Opening.{AskedToOpen, AskedToOpenUnder, CannotReadWorld, IsNoHierarchy, IsNoWorld, IsWorldFor, OpensOn, OpensUnder, SaysOpenRefusal, open_refusal_number, open_refusal_words};
+ghost use Rattle.flowc_c.specs.Opening.{AskedToOpen, AskedToOpenUnder, CannotReadWorld, IsNoHierarchy, IsNoWorld, IsWorldFor, OpensOn, OpensUnder, SaysOpenRefusal, open_message};
 ghost use Rattle.host.specs.Values.{host_of};
 ghost use Rattle.std.specs.Prelude.{◌≡◌, IfErr, IfOk, OnOk};
 
@@ -13,7 +13,8 @@ use crate::reply::{BYTES, HIERARCHY, Reply, WORLD, ended, refuse};
 use channels::WorldRefusal;
 use checker::read_hierarchy;
 use flowc::{
-    FormatRefusal, Host, HostRefusal, Id, Module, OrNoMemory, Refusal, RefusalKind, World, decode,
+    FormatRefusal, Host, HostRefusal, Id, Message, Module, OrNoMemory, Refusal, RefusalKind,
+    Reported, World, decode,
 };
 use host_handle::Handle;
 use principals::Hierarchy;
@@ -37,30 +38,16 @@ pub enum OpenRefusal {
 /// Why a session was not opened.
 pub type OpenFault = OrNoMemory<OpenRefusal>;
 
-impl OpenRefusal {
-    /// The number that the refusal is reported by.
-    pub fn number(&self) -> u32
-        ensures { result ≡ open_refusal_number self.now }
-    {
-        match self {
-            OpenRefusal::Bytes(refusal) => refusal.kind.number(),
-            OpenRefusal::Encoding => RefusalKind::NotUtf8.number(),
-            OpenRefusal::World(refusal) => refusal.kind.number(),
-            OpenRefusal::Hierarchy(refusal) => refusal.kind.number(),
-            OpenRefusal::Host(refusal) => refusal.number(),
-        }
-    }
+impl Reported for OpenRefusal {
+    ghost contents = { open_message };
 
-    /// The words that the refusal is reported by.
-    pub fn words(&self) -> &'static str
-        ensures { result.now ≡ open_refusal_words self.now }
-    {
+    fn message(&self) -> Message {
         match self {
-            OpenRefusal::Bytes(refusal) => refusal.kind.words(),
-            OpenRefusal::Encoding => RefusalKind::NotUtf8.words(),
-            OpenRefusal::World(refusal) => refusal.kind.words(),
-            OpenRefusal::Hierarchy(refusal) => refusal.kind.words(),
-            OpenRefusal::Host(refusal) => refusal.words(),
+            OpenRefusal::Bytes(refusal) => refusal.kind.message(),
+            OpenRefusal::Encoding => RefusalKind::NotUtf8.message(),
+            OpenRefusal::World(refusal) => refusal.kind.message(),
+            OpenRefusal::Hierarchy(refusal) => refusal.kind.message(),
+            OpenRefusal::Host(refusal) => refusal.message(),
         }
     }
 }
@@ -191,13 +178,13 @@ pub(crate) fn refuse_open(refusal: &OpenRefusal, length: usize) -> Reply
     ensures length { result.length ≡ length }
     ensures says { SaysOpenRefusal refusal.now result }
 {
-    let mut reply = place_of(refusal);
+    let mut reply = reply_to(refusal);
     reply.length = length;
     reply
 }
 
 // The same without a length.
-fn place_of(refusal: &OpenRefusal) -> Reply
+fn reply_to(refusal: &OpenRefusal) -> Reply
     ensures status { result.status ≡ REFUSED }
     ensures says { SaysOpenRefusal refusal.now result }
 {

@@ -1,7 +1,7 @@
 //! Sessions opened from C, and the principals of a module by their names.
 
 ghost use Rattle.flowc_c.specs.Hosts.{hosted};
-ghost use Rattle.flowc_c.specs.Opening.{HasNoPrincipal, IsPrincipalOf, OpensSession, OpensSessionUnder, SaysOpenRefusal, SaysOpening, TellsOpenRefusal, TellsUnderRefusal, open_refusal_words};
+ghost use Rattle.flowc_c.specs.Opening.{HasNoPrincipal, IsPrincipalOf, OpensSession, OpensSessionUnder, SaysOpenRefusal, SaysOpening, TellsOpenRefusal, TellsUnderRefusal, open_message};
 ghost use Rattle.flowc_c.specs.Buffer.{IsPutIfFits};
 ghost use Rattle.principals.specs.ActsFor.{HasName};
 ghost use Rattle.std.specs.Prelude.{◌≡◌, ◌<◌, ◌≤◌, ◌↔◌, Contains, IsUtf8, None};
@@ -10,7 +10,7 @@ use crate::buffer::deliver_words;
 use crate::opening::{OpenFault, OpenRefusal, ask_open, ask_open_under, refuse_open};
 use crate::outcome::{DONE, NO_MEMORY, REFUSED};
 use crate::reply::{NO_HOST, Reply, ended};
-use flowc::{Id, Module, OrNoMemory, decode};
+use flowc::{Id, Module, OrNoMemory, Reported, decode};
 use host_handle::Handle;
 use std::alloc::Global;
 
@@ -92,7 +92,7 @@ fn opened(id: Id) -> Reply
 fn tell(refusal: &OpenRefusal, words: &mut [u8]) -> Reply
     ensures status { result.status ≡ REFUSED }
     ensures says { SaysOpenRefusal refusal.now result }
-    ensures words { IsPutIfFits (open_refusal_words refusal.now) result.length words.old
+    ensures words { IsPutIfFits (open_message refusal.now).words result.length words.old
         words.new }
 {
     let length = deliver_words(refusal.words(), words);

@@ -4,7 +4,7 @@ ghost use Rattle.flowc_c.specs.Outcome.{SaysModuleRefusal, SaysRefusal, text_num
 ghost use Rattle.std.specs.Prelude.{◌≡◌, length};
 
 use bytecode::FormatRefusal;
-use flowc::{LoadRefusal, Refusal, Text};
+use flowc::{LoadRefusal, Refusal, Reported, Text};
 use verifier::CodeRefusal;
 
 /// The call has done what it says.

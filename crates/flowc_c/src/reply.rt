@@ -5,7 +5,7 @@ ghost use Rattle.host.specs.Meaning.{Refused};
 ghost use Rattle.std.specs.Prelude.{◌≡◌, Some};
 
 use crate::outcome::{DONE, NO_MEMORY, REFUSED};
-use flowc::{HostFault, HostRefusal, LoadRefusal, OrNoMemory};
+use flowc::{HostFault, HostRefusal, LoadRefusal, OrNoMemory, Reported};
 
 /// The handle holds no host.
 pub const NO_HOST: u32 = 2;

@@ -8,14 +8,14 @@ ghost use Rattle.flowc.specs.Explained.{ShowsChain};
 ghost use Rattle.flowc_c.specs.Outcome.{SaysFirstFault, SaysRefusal, TellsFirstFault};
 ghost use Rattle.flowc_c.specs.Buffer.{IsPut, IsPutIfFits};
 ghost use Rattle.flowc_c.specs.Results.{NeedsModule, PutsChain, PutsLabels, PutsModule};
-ghost use Rattle.acceptance.specs.RefusalKinds.{refusal_kind_words};
+ghost use Rattle.acceptance.specs.RefusalKinds.{refusal_message};
 ghost use Rattle.std.specs.Prelude.{[], ◌≡◌, ◌<◌, ℕ, List, IfOk, None, Some, length};
 
 use crate::buffer::{deliver, deliver_words};
 use crate::outcome::{DONE, NO_MEMORY, Outcome, REFUSED, TOO_SHORT, ended, refuse_texts};
 use channels::{Device, ViewFault};
 use explaining::{write_flow, write_labels};
-use flowc::{Checked, OrNoMemory, Refusal, RefusedFlow, check_texts, compile};
+use flowc::{Checked, OrNoMemory, Refusal, RefusedFlow, Reported, check_texts, compile};
 use std::alloc::Global;
 
 /// Checks a source under a hierarchy text.
@@ -73,7 +73,7 @@ pub extern "C" fn flowc_compile(
 fn tell(refusal: &Refusal, out: &mut [u8]) -> Outcome
     ensures status { result.status ≡ REFUSED }
     ensures says { SaysRefusal refusal.now result }
-    ensures words { IsPutIfFits (refusal_kind_words refusal.now.kind) result.length out.old
+    ensures words { IsPutIfFits (refusal_message refusal.now.kind).words result.length out.old
         out.new }
 {
     let length = deliver_words(refusal.kind.words(), out);

@@ -1,21 +1,22 @@
 -- Where no fault of the exits is found, each statement is reached, and so a program without one is gathered.
-use Rattle.std.proofs.Common.{◌≡◌, refl, ℕ, zero, suc, Bool, true, false, not, ◌&&◌, List, [], ◌∷◌, ◌++◌}
+use Rattle.std.proofs.Common.{◌≡◌, refl, ℕ, zero, suc, Bool, true, false, not, ◌&&◌, List, [], ◌∷◌, ◌++◌, sym, ◌∙◌}
 use Rattle.std.specs.Prelude.{filter, flat_map, is_some, slice_index_or}
 use Rattle.std.specs.List.{list_all}
 use Rattle.lattices.specs.Constraints.{IsGathered}
+use Rattle.resolved.specs.FaultParts.{place_of, may_stand, inner_faults, may_exit}
 use Rattle.resolved.specs.declared.statement.Exit.{Exit}
 use Rattle.resolved.specs.declared.statement.Exit.TheVariants.{Normal, Throw}
-use Rattle.resolved.specs.Tree.{Statement, Assign, Clear, Store, Receive, Send, Call, If, While, Leave, ReturnWith, Try, Nested, Block, Empty, Then, Handlers, NoMore, Catch, place_of}
+use Rattle.resolved.specs.Tree.{Statement, Assign, Clear, Store, Receive, Send, Call, If, While, Leave, ReturnWith, Try, Nested, Block, Empty, Then, Handlers, NoMore, Catch}
 use Rattle.resolved.specs.Program.{Program, ProcedureEntry}
 use Rattle.resolved.specs.Exits.{same_exit, has_exit, statement_exits, block_exits}
-use Rattle.resolved.specs.ExitFaults.{fault_unless, may_stand, may_exit, inner_faults, block_faults, handlers_faults, procedure_faults, exit_faults}
+use Rattle.resolved.specs.ExitFaults.{fault_unless, block_faults, handlers_faults, procedure_faults, exit_faults}
 use Rattle.resolved.specs.declared.fault.ExitRefusalKind.TheVariants.{OutsideLoop, Unreachable, NeverRaised, NoValueReturned, Undeclared}
 use Rattle.resolved.specs.declared.fault.ExitRefusal.{ExitRefusal}
 use Rattle.resolved.specs.Labelled.{program_demands}
 use Rattle.gathering.specs.Walk.{program_constraints}
 use Rattle.gathering.proofs.Reached.{Goes, Part, PartIn, PartBy}
 use Rattle.gathering.proofs.Programs.{PartsFrom, Gathers, gathered_by, all-gathers}
-use Rattle.resolved.proofs.Exits.{no_fault-test}
+use Rattle.resolved.proofs.Exits.{no_fault-test, faults-in_parts}
 
 none-left : (xs ys : List ExitRefusal) → (xs ++ ys) ≡ [] → xs ≡ []
 none-left [] ys e = refl
@@ -30,8 +31,9 @@ module _ (program : Program) where
   reached-first loop b s rest none =
       let a : List ExitRefusal = fault_unless (may_stand loop s) OutsideLoop (place_of s) in
       let r : List ExitRefusal = fault_unless b Unreachable (place_of s) in
+      let parts = sym (faults-in_parts program loop b rest s) ∙ none in
       no_fault-test b Unreachable (place_of s) (none-right a r (none-left (a ++ r) (inner_faults program loop s)
-      (none-left ((a ++ r) ++ inner_faults program loop s) (block_faults program loop (has_exit (statement_exits program s) Normal) rest) none)))
+      (none-left ((a ++ r) ++ inner_faults program loop s) (block_faults program loop (has_exit (statement_exits program s) Normal) rest) parts)))
 
   goes-on : (loop : Bool) (s : Statement) (rest : Block) → block_faults program loop (has_exit (statement_exits program s) Normal) rest ≡ [] → Goes program s rest
   goes-on loop s Empty none = tt
@@ -64,10 +66,11 @@ module _ (program : Program) where
         let a : List ExitRefusal = fault_unless (may_stand loop s) OutsideLoop (place_of s) in
         let r : List ExitRefusal = fault_unless b Unreachable (place_of s) in
         let own : List ExitRefusal = inner_faults program loop s in
-        let more : List ExitRefusal = block_faults program loop (has_exit (statement_exits program s) Normal) rest in (
-          part-from s loop (none-right (a ++ r) own (none-left ((a ++ r) ++ own) more none)),
-          goes-on loop s rest (none-right ((a ++ r) ++ own) more none),
-          part_in-from rest loop (has_exit (statement_exits program s) Normal) (none-right ((a ++ r) ++ own) more none),
+        let more : List ExitRefusal = block_faults program loop (has_exit (statement_exits program s) Normal) rest in
+        let parts = sym (faults-in_parts program loop b rest s) ∙ none in (
+          part-from s loop (none-right (a ++ r) own (none-left ((a ++ r) ++ own) more parts)),
+          goes-on loop s rest (none-right ((a ++ r) ++ own) more parts),
+          part_in-from rest loop (has_exit (statement_exits program s) Normal) (none-right ((a ++ r) ++ own) more parts),
         )
 
     part_by-from : (handlers : Handlers) (loop : Bool) (ends : List Exit) → handlers_faults program loop ends handlers ≡ [] → PartBy program handlers

@@ -1,10 +1,10 @@
-ghost use Rattle.host.specs.RefusalKinds.{refusal_number, refusal_words};
+ghost use Rattle.host.specs.RefusalKinds.{host_message};
 ghost use Rattle.host.specs.declared.fault.HostRefusal.TheVariants.{Load, New};
 ghost use Rattle.std.specs.Prelude.{◌≡◌, Some};
 
-use common::OrNoMemory;
+use common::{Message, OrNoMemory, Reported};
 use machine::NewRefusal;
-use principals::{UNKNOWN_PRINCIPAL, UNKNOWN_PRINCIPAL_WORDS};
+use principals::HierarchyRefusalKind;
 use std::error::Error;
 use std::fmt;
 use verifier::LoadRefusal;
@@ -45,38 +45,23 @@ impl From<NewRefusal> for HostRefusal {
     }
 }
 
-impl HostRefusal {
-    /// The number that the refusal is reported by.
-    pub fn number(&self) -> u32
-        ensures { result ≡ refusal_number self.now }
-    {
-        match self {
-            HostRefusal::Full => 901,
-            HostRefusal::UnknownId => 902,
-            HostRefusal::UnknownPrincipal => UNKNOWN_PRINCIPAL,
-            HostRefusal::Load(refusal) => refusal.number(),
-            HostRefusal::New(refusal) => refusal.number(),
-            HostRefusal::NotContained => 903,
-        }
-    }
+impl Reported for HostRefusal {
+    ghost contents = { host_message };
 
-    /// The words that the refusal is reported by.
-    pub fn words(&self) -> &'static str
-        ensures { result.now ≡ refusal_words self.now }
-    {
+    fn message(&self) -> Message {
         match self {
-            HostRefusal::Full => "full",
-            HostRefusal::UnknownId => "unknown id",
-            HostRefusal::UnknownPrincipal => UNKNOWN_PRINCIPAL_WORDS,
-            HostRefusal::Load(refusal) => refusal.words(),
-            HostRefusal::New(refusal) => refusal.words(),
-            HostRefusal::NotContained => "hierarchy not contained",
+            HostRefusal::Full => Message::new(901, "full"),
+            HostRefusal::UnknownId => Message::new(902, "unknown id"),
+            HostRefusal::UnknownPrincipal => HierarchyRefusalKind::UnknownPrincipal.message(),
+            HostRefusal::Load(refusal) => refusal.message(),
+            HostRefusal::New(refusal) => refusal.message(),
+            HostRefusal::NotContained => Message::new(903, "hierarchy not contained"),
         }
     }
 }
 
 impl fmt::Display for HostRefusal {
-    ghost output = { λ refusal. Some (refusal_words refusal) };
+    ghost output = { λ refusal. Some (host_message refusal).words };
 
     fn fmt<W: fmt::Write>(&self, f: &mut fmt::Formatter<W>) -> fmt::Result {
         write!(f, "{}", self.words())

@@ -1,6 +1,6 @@
 -- Each exit that the meaning gives is among the possible exits, and each exception of an expression among those that it can raise.
 use Rattle.std.proofs.Common.{arith, ◌≡◌, refl, sym, ap, ◌∙◌, ℕ, zero, suc, Bool, true, false, not, ◌||◌, List, [], ◌∷◌, ◌++◌, append_assoc, ℤ, pos, negsuc, neg_ℤ, ◌+ℤ◌}
-use Rattle.std.specs.Prelude.{Option, Some, None, if◌then◌else◌, ◌==◌, filter, flat_map}
+use Rattle.std.specs.Prelude.{Option, Some, None, if◌then◌else◌, ◌==◌, filter, flat_map, nat_abs}
 use Rattle.std.specs.List.{list_any, list_all}
 use Rattle.std.proofs.lemmas.List.Folds.{list_any-append}
 use Rattle.std.proofs.lemmas.List.{append-nil}
@@ -24,13 +24,13 @@ use Rattle.resolved.specs.declared.statement.Exit.{Exit}
 use Rattle.resolved.specs.declared.statement.Exit.TheVariants.{Normal, Return, Break, Continue, Throw}
 use Rattle.resolved.specs.Tree.{Expression, Integer, Logical, Read, Element, Unary, Binary, Short, Statement, Assign, Clear, Store, Receive, Send, Call, If, While, Leave, ReturnWith, Try, Nested, Block, Empty, Then, Handlers, NoMore, Catch}
 use Rattle.resolved.specs.Program.{Program, procedure_at}
-use Rattle.resolved.specs.Value.{Evaluated, Yields, Raises, then_with, truth_in, number_in, wrapped, literal_number, unless_zero, operator_value, decides, in_range, position_of, checked_index}
+use Rattle.resolved.specs.Value.{Evaluated, Yields, Raises, then_with, truth_in, number_in, wrapped, literal_number, unless_zero, operator_value, decides, in_range, checked_index}
 use Rattle.resolved.specs.SourceState.{SourceState, value_of, values_of, cells, cell_at, assigned, stored, cleared}
 use Rattle.resolved.specs.Meaning.{OutOfFuel, Outcome, Ended, Stopped, normally, after, evaluated, looped, fuel, caught, leaving, returned_to, received, sending, Calls, statement_meaning, block_meaning, handlers_meaning, frame_of, calls_with}
 use Rattle.resolved.specs.Exits.{same_exit, has_exit, index_can_raise, divisor_can_raise, index_raises, operator_raises, raises, thrown_exits, declared_by, leaves_loop, handles, passes, then_exits, statement_exits, block_exits, handlers_exits}
-use Rattle.resolved.specs.ExitFaults.{may_exit}
+use Rattle.resolved.specs.FaultParts.{may_exit}
 use Rattle.isolation.specs.Runs.{ExitsAmong}
-use Rattle.resolved.proofs.Exits.{same_exit-itself, thrown-append, end-filter, all-has, then-other}
+use Rattle.resolved.proofs.Exits.{same_exit-itself, thrown-append, thrown-break, thrown-continue, end-filter, all-has, then-other}
 use Rattle.common.specs.Integers.{is_zero}
 use Rattle.common.specs.declared.exceptions.TheConstants.{ARITH, BOUNDS, END}
 
@@ -109,7 +109,7 @@ raises-checked_index s index length v e = go (index_can_raise index length) refl
   where
     go : (b : Bool) → index_can_raise index length ≡ b → (c : Bool) → in_range (number_in v) length ≡ c →
         RaisesAmong (index_raises index length) (checked_index v length)
-    go b f true g = rw g (raises-none (index_raises index length) (position_of (number_in v)))
+    go b f true g = rw g (raises-none (index_raises index length) (nat_abs (number_in v)))
     go true f false g = rw (f, g) (raises-this (BOUNDS ∷ []) BOUNDS refl)
     go false f false g = let i : true ≡ false = sym (index-in_range s index length v f e) ∙ g in absurd (cc)
 
@@ -421,9 +421,11 @@ among-leaving : (program : Program) (f : ℕ) (back : SourceState → SourceStat
 among-leaving program f back (Ended Normal r s) declared h = record { among = refl }
 among-leaving program f back (Ended Return r s) declared h = record { among = refl }
 among-leaving program f back (Ended Break r s) declared h =
-    let no : false ≡ true = all-has (may_exit (procedure_at program f)) (block_exits program (procedure_at program f).body) Break (declared f) h.among in absurd (cc)
+    let no : false ≡ true = sym (thrown-break (declared_by (procedure_at program f).throws))
+    ∙ all-has (may_exit (procedure_at program f)) (block_exits program (procedure_at program f).body) Break (declared f) h.among in absurd (cc)
 among-leaving program f back (Ended Continue r s) declared h =
-    let no : false ≡ true = all-has (may_exit (procedure_at program f)) (block_exits program (procedure_at program f).body) Continue (declared f) h.among in absurd (cc)
+    let no : false ≡ true = sym (thrown-continue (declared_by (procedure_at program f).throws))
+    ∙ all-has (may_exit (procedure_at program f)) (block_exits program (procedure_at program f).body) Continue (declared f) h.among in absurd (cc)
 among-leaving program f back (Ended (Throw x) r s) declared h =
     record { among = all-has (may_exit (procedure_at program f)) (block_exits program (procedure_at program f).body) (Throw x) (declared f) h.among }
 among-leaving program f back (Stopped stop s) declared h = record { among = tt }

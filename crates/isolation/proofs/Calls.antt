@@ -15,7 +15,7 @@ use Rattle.resolved.specs.Program.{Program, ProcedureEntry, ThrownEntry, procedu
 use Rattle.resolved.specs.SourceState.{SourceState, assigned, cells}
 use Rattle.resolved.specs.Meaning.{Stop, Outcome, Ended, Stopped, leaving, returned_to, state_after}
 use Rattle.resolved.specs.Exits.{same_exit, has_exit, one_exit, thrown_exits, declared_by}
-use Rattle.resolved.specs.ExitFaults.{may_exit}
+use Rattle.resolved.specs.FaultParts.{may_exit}
 use Rattle.resolved.specs.declared.target.Target.TheVariants.{ToEnd, ToThrown}
 use Rattle.resolved.specs.Labelled.{Labelling, ExitLabels, Demand, demand, FitsDemands, label_if, any_of, one, label_of, join_under, Scope, here, as_one_exit, exit_demands, one}
 use Rattle.isolation.proofs.Grows.{Grows, grows-itself, grows-returned_to}
@@ -25,7 +25,7 @@ use Rattle.isolation.proofs.Unseen.{Hidden, hidden_exit, hidden_return, hidden_s
 use Rattle.isolation.proofs.Related.{Related, agreed_exit, same_return, apart, first_stops, second_stops, both-unseen, stopped-prefix, agree-prefix}
 use Rattle.isolation.proofs.Closed.{read_exits, one-same}
 use Rattle.isolation.proofs.Confined.{UnseenCall, HiddenCall, call_exit, call_thrown, call_stop, unread_exits, unseen-returned_to, unread-label_if, fits-left, fits-right, unread-demand}
-use Rattle.resolved.proofs.Exits.{same-exit, same_exit-itself, all-has}
+use Rattle.resolved.proofs.Exits.{same-exit, same_exit-itself, all-has, thrown-break, thrown-continue}
 
 -- two calls: they end in the same way, or the observer reads the label of neither exit; and what is seen of a stopped one is a prefix
 pub data RelatedCall (view : View) (value : Bool) (exits : Exit → Bool) : Outcome → Outcome → Type 0 where
@@ -156,8 +156,8 @@ module _ (callee : ProcedureEntry) (ends : List Exit) (declared : list_all (may_
       HiddenCall value unread_exits (leaving back o)
   hidden-shape exits o among (hidden_exit Normal t m) = call_exit None (back t) refl (λ e. refl)
   hidden-shape exits o among (hidden_exit Return t m) = call_exit None (back t) refl (λ e. refl)
-  hidden-shape exits o among (hidden_exit Break t m) = absurd (never-may (all-has (may_exit callee) ends Break declared among.among))
-  hidden-shape exits o among (hidden_exit Continue t m) = absurd (never-may (all-has (may_exit callee) ends Continue declared among.among))
+  hidden-shape exits o among (hidden_exit Break t m) = absurd (never-may (sym (thrown-break (declared_by callee.throws)) ∙ all-has (may_exit callee) ends Break declared among.among))
+  hidden-shape exits o among (hidden_exit Continue t m) = absurd (never-may (sym (thrown-continue (declared_by callee.throws)) ∙ all-has (may_exit callee) ends Continue declared among.among))
   hidden-shape exits o among (hidden_exit (Throw x) t m) = call_thrown x (back t) refl
   hidden-shape exits o among (hidden_return r t m none) = call_exit r (back t) refl none
   hidden-shape exits o among (hidden_stop stop t) = call_stop stop (back t)
@@ -216,8 +216,8 @@ no_throws-one callee (first ∷ rest) none declared =
     one : (exit : Exit) → may_exit callee exit ≡ true → same_exit Normal (as_one_exit exit) ≡ true
     one Normal e = refl
     one Return e = refl
-    one Break e = e
-    one Continue e = e
+    one Break e = absurd (nothing callee.throws Break none e)
+    one Continue e = absurd (nothing callee.throws Continue none e)
     one (Throw x) e = absurd (nothing callee.throws (Throw x) none e)
 
 some-throws : (callee : ProcedureEntry) (ends : List Exit) (exit : Exit) → list_all (may_exit callee) ends ≡ true →
@@ -286,8 +286,8 @@ module _ {h : PrincipalHierarchy} {labelling : Labelling} (reader : Reader h lab
       call_exit None (back t) (normal-unread more Normal among.among (unread-left reader (x Normal) (x Return) m)) (λ e. refl)
   hidden-leaving o more among (hidden_exit Return t m) =
       call_exit None (back t) (normal-unread more Return among.among (unread-right reader (x Normal) (x Return) m)) (λ e. refl)
-  hidden-leaving o more among (hidden_exit Break t m) = absurd (never-may (all-has (may_exit (here scope)) ends Break declared among.among))
-  hidden-leaving o more among (hidden_exit Continue t m) = absurd (never-may (all-has (may_exit (here scope)) ends Continue declared among.among))
+  hidden-leaving o more among (hidden_exit Break t m) = absurd (never-may (sym (thrown-break (declared_by (here scope).throws)) ∙ all-has (may_exit (here scope)) ends Break declared among.among))
+  hidden-leaving o more among (hidden_exit Continue t m) = absurd (never-may (sym (thrown-continue (declared_by (here scope).throws)) ∙ all-has (may_exit (here scope)) ends Continue declared among.among))
   hidden-leaving o more among (hidden_exit (Throw y) t m) =
       call_thrown y (back t) (unread-thrown reader scope.program scope.number (here scope).at x (here scope).throws y
       (fits-right h labelling (several scope x) (on_thrown scope x) (several-demands h labelling scope ends x more fits))
@@ -325,9 +325,9 @@ related-leaving reader scope ends x inner outer value s t o p declared fits back
 related-leaving reader scope ends x inner outer value s t o p declared fits back same_shown among among' (agreed_exit Return u w h) =
     same_call None None (home s u) (home t w) (back u w h) (λ e. refl)
 related-leaving reader scope ends x inner outer value s t o p declared fits back same_shown among among' (agreed_exit Break u w h) =
-    absurd (never-may (all-has (may_exit (here scope)) ends Break declared among.among))
+    absurd (never-may (sym (thrown-break (declared_by (here scope).throws)) ∙ all-has (may_exit (here scope)) ends Break declared among.among))
 related-leaving reader scope ends x inner outer value s t o p declared fits back same_shown among among' (agreed_exit Continue u w h) =
-    absurd (never-may (all-has (may_exit (here scope)) ends Continue declared among.among))
+    absurd (never-may (sym (thrown-continue (declared_by (here scope).throws)) ∙ all-has (may_exit (here scope)) ends Continue declared among.among))
 related-leaving reader scope ends x inner outer value s t o p declared fits back same_shown among among' (agreed_exit (Throw y) u w h) =
     same_thrown y (home s u) (home t w) (back u w h)
 related-leaving reader scope ends x inner outer value s t o p declared fits back same_shown among among' (same_return r q u w h i) =

@@ -6,7 +6,8 @@ use Rattle.resolved.specs.declared.statement.Exit.TheVariants.{Normal}
 use Rattle.resolved.specs.Tree.{Empty}
 use Rattle.resolved.specs.Program.{Program, ProcedureEntry}
 use Rattle.resolved.specs.Exits.{has_exit, block_exits}
-use Rattle.resolved.specs.ExitFaults.{fault_unless, may_exit, block_faults, procedure_faults, exit_faults}
+use Rattle.resolved.specs.ExitFaults.{fault_unless, block_faults, procedure_faults, exit_faults}
+use Rattle.resolved.specs.FaultParts.{may_exit}
 use Rattle.resolved.specs.declared.fault.ExitRefusalKind.TheVariants.{NoValueReturned, Undeclared}
 use Rattle.isolation.proofs.Among.{EndsAsDeclared}
 use Rattle.common.proofs.Cases.{append_empty}

@@ -13,7 +13,7 @@ use Rattle.common.specs.declared.direction.Direction.TheVariants.{Input, Output}
 use Rattle.resolved.specs.Tree.{Empty}
 use Rattle.resolved.specs.Program.{Program, ChannelEntry, ProcedureEntry, procedure_at, channel_at, slot_at}
 use Rattle.resolved.specs.SourceState.{SourceState, World, cells}
-use Rattle.resolved.specs.Meaning.{Deep, Outcome, leaving, Stopped, entering, first_cells_of_slots, block_meaning, calls_with, first_state, channel_numbers, numbers_by, run_within, state_after}
+use Rattle.resolved.specs.Meaning.{Deep, Outcome, leaving, Stopped, entering, first_cells_of_slots, block_meaning, calls_with, first_state, numbers_by, run_within, state_after}
 use Rattle.resolved.specs.Exits.{block_exits}
 use Rattle.resolved.specs.declared.target.Target.TheVariants.{ToBegin}
 use Rattle.resolved.specs.Labelled.{Scope, OfLocal, Join, one, written_or, label_of, join_under, Labelling, FitsDemands, channel_label, block_rule, block_exit_labels, block_demands, exit_demands, procedure_demands, demands_from, program_demands}
@@ -196,16 +196,16 @@ module _ (program : Program) (labelling : Labelling) (accepted : Accepted progra
 
 -- the numbers of a channel at first, which are those of the world where the channel is an input
 numbers-alike : (channels : List ChannelEntry) (none : ChannelEntry) (n : ℕ) (first second : List ℤ) →
-    (n < length channels → (slice_index_or channels n none).direction ≡ Input → first ≡ second) →
-    channel_numbers (slice_get channels n) first ≡ channel_numbers (slice_get channels n) second
-numbers-alike [] none n first second same = refl
-numbers-alike (channel ∷ rest) none zero first second same = go channel.direction refl
+    none.direction ≡ Output → (n < length channels → (slice_index_or channels n none).direction ≡ Input → first ≡ second) →
+    numbers_by (slice_index_or channels n none).direction first ≡ numbers_by (slice_index_or channels n none).direction second
+numbers-alike [] none n first second sends same = rw sends refl
+numbers-alike (channel ∷ rest) none zero first second sends same = go channel.direction refl
   where
     go : (d : Direction) → channel.direction ≡ d → numbers_by channel.direction first ≡ numbers_by channel.direction second
     go Input e = ap (λ l. numbers_by channel.direction l) (same (omega arith) e)
     go Output e = rw e refl
-numbers-alike (channel ∷ rest) none (suc n) first second same =
-    numbers-alike rest none n first second (λ h e. same (omega (arith, h)) e)
+numbers-alike (channel ∷ rest) none (suc n) first second sends same =
+    numbers-alike rest none n first second sends (λ h e. same (omega (arith, h)) e)
 
 -- what an observer sees of calls of which one is stopped, or which end in the same way, or at labels that it does not read
 related_call-prefix : (view : View) (value : Bool) (exits : Exit → Bool) (o p : Outcome) → RelatedCall view value exits o p →
@@ -227,7 +227,7 @@ module _ (program : Program) (labelling : Labelling) (accepted : Accepted progra
       AgreeFor outside (first_state program first) (first_state program second)
   first-alike first second same = record {
     variables = variables;
-    inputs = λ n e. numbers-alike program.channels (record { direction = Output; name = []; label = [] }) n (first n) (second n)
+    inputs = λ n e. numbers-alike program.channels (record { direction = Output; name = []; label = [] }) n (first n) (second n) refl
         (λ h d. same n h d e);
     sent = refl;
   }

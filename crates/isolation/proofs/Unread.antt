@@ -5,11 +5,12 @@ use Rattle.std.specs.Prelude.{Some, None, filter}
 use Rattle.std.proofs.lemmas.Bool.{or_cases, and_parts}
 use Rattle.std.proofs.lemmas.List.Folds.{list_any-append}
 use Rattle.principals.specs.ActsFor.{PrincipalHierarchy}
+use Rattle.resolved.specs.FaultParts.{place_of, may_stand, inner_faults}
 use Rattle.resolved.specs.declared.statement.Exit.{Exit}
 use Rattle.resolved.specs.declared.statement.Exit.TheVariants.{Normal, Return, Break, Continue, Throw}
-use Rattle.resolved.specs.Tree.{Statement, Call, If, While, ReturnWith, Try, Nested, Block, Empty, Then, Handlers, NoMore, Catch, place_of}
+use Rattle.resolved.specs.Tree.{Statement, Call, If, While, ReturnWith, Try, Nested, Block, Empty, Then, Handlers, NoMore, Catch}
 use Rattle.resolved.specs.Exits.{same_exit, has_exit, raises, thrown_exits, leaves_loop, passes, then_exits, statement_exits, block_exits, handlers_exits}
-use Rattle.resolved.specs.ExitFaults.{fault_unless, may_stand, inner_faults, block_faults, handlers_faults}
+use Rattle.resolved.specs.ExitFaults.{fault_unless, block_faults, handlers_faults}
 use Rattle.resolved.specs.declared.fault.ExitRefusalKind.TheVariants.{OutsideLoop, Unreachable, NeverRaised}
 use Rattle.resolved.specs.declared.target.Target.TheVariants.{ToLoop}
 use Rattle.resolved.specs.Labelled.{Scope, ExitLabels, demand, FitsDemands, value_label, label_if, at_exits, raised_exit_labels, loop_exit_labels, statement_rule, block_rule, handlers_rule, statement_demands, block_demands, handlers_demands, Labelling, Join, one, label_of}
@@ -18,7 +19,7 @@ use Rattle.isolation.proofs.Observer.{Reader, unread-left, unread-right}
 use Rattle.isolation.proofs.Closed.{closed-unread}
 use Rattle.isolation.proofs.Confined.{fits-left, fits-right, unread-label_if, unread-call, own-unread}
 use Rattle.common.proofs.Cases.{append_empty}
-use Rattle.resolved.proofs.Exits.{same-exit, no_fault-test, end-filter}
+use Rattle.resolved.proofs.Exits.{same-exit, no_fault-test, end-filter, faults-in_parts}
 
 either-end : (xs ys : List Exit) (exit : Exit) → has_exit (xs ++ ys) exit ≡ true →
     (has_exit xs exit ≡ true) ⊎ (has_exit ys exit ≡ true)
@@ -155,7 +156,8 @@ module _ (h : PrincipalHierarchy) (labelling : Labelling) (reader : Reader h lab
         let first = fault_unless (may_stand in_loop statement) OutsideLoop (place_of statement) ++ fault_unless reached Unreachable
         (place_of statement) in
         let later = block_faults scope.program in_loop (has_exit ends Normal) rest in
-        let both = append_empty (first ++ inner_faults scope.program in_loop statement) later faults in
+        let both = append_empty (first ++ inner_faults scope.program in_loop statement) later
+        (sym (faults-in_parts scope.program in_loop reached rest statement) ∙ faults) in
         let here = append_empty first (inner_faults scope.program in_loop statement) both.0 in
         let statement_fits = fits-left h labelling (statement_demands scope pc statement) (block_demands scope (x Normal) rest) fits in
         let inner : (e : Exit) → has_exit ends e ≡ true → reader.reads (x e) ≡ false = λ e found. closed-unread reader ends pc

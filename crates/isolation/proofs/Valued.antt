@@ -9,7 +9,8 @@ use Rattle.resolved.specs.Value.{base_of}
 use Rattle.resolved.specs.SourceState.{SourceState}
 use Rattle.resolved.specs.Meaning.{Outcome, Ended, Stopped, leaving, entering, calls_with, block_meaning}
 use Rattle.resolved.specs.Exits.{has_exit, block_exits}
-use Rattle.resolved.specs.ExitFaults.{fault_unless, may_exit, block_faults, procedure_faults}
+use Rattle.resolved.specs.ExitFaults.{fault_unless, block_faults, procedure_faults}
+use Rattle.resolved.specs.FaultParts.{may_exit}
 use Rattle.resolved.specs.declared.fault.ExitRefusalKind.TheVariants.{NoValueReturned, Undeclared}
 use Rattle.resolved.specs.WellFormed.{has_result, same_base}
 use Rattle.resolved.specs.Kinds.{OutcomeFits}

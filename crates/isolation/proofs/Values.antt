@@ -1,7 +1,7 @@
 -- Expressions in two states that are the same for an observer: who reads the raise label finds the same exception in both or none
 -- in both, and who reads the value label too finds the same value.
 use Rattle.std.proofs.Common.{◌≡◌, refl, sym, ap, ◌∙◌, ℕ, Bool, true, false, ◌&&◌, List, [], ◌∷◌, ◌++◌, ℤ}
-use Rattle.std.specs.Prelude.{if◌then◌else◌, flat_map}
+use Rattle.std.specs.Prelude.{if◌then◌else◌, flat_map, nat_abs}
 use Rattle.principals.specs.ActsFor.{PrincipalHierarchy}
 use Rattle.resolved.specs.declared.expression.Value.{Value}
 use Rattle.resolved.specs.declared.expression.Value.TheVariants.{Number, Truth}
@@ -14,7 +14,7 @@ use Rattle.resolved.specs.declared.expression.Relation.TheVariants.{LessThan, At
 use Rattle.resolved.specs.declared.expression.Sameness.TheVariants.{Same, Different}
 use Rattle.resolved.specs.declared.expression.Connective.{Connective}
 use Rattle.resolved.specs.Tree.{Expression, Integer, Logical, Read, Element, Unary, Binary, Short}
-use Rattle.resolved.specs.Value.{Evaluated, Yields, Raises, then_with, number_in, literal_number, unless_zero, prefix_value, operator_value, decides, in_range, position_of, checked_index}
+use Rattle.resolved.specs.Value.{Evaluated, Yields, Raises, then_with, number_in, literal_number, unless_zero, prefix_value, operator_value, decides, in_range, checked_index}
 use Rattle.resolved.specs.SourceState.{SourceState, cells, cell_at, value_of, values_of}
 use Rattle.resolved.specs.Exits.{index_can_raise, divisor_can_raise, is_division, raises}
 use Rattle.resolved.specs.Labelled.{Scope, variable_label, value_label, raise_label, label_if, any_of, Labelling, Join}
@@ -56,7 +56,7 @@ index-alike s t index len b v w covered f g same = go (index_can_raise index len
     reflexive v = cases (in_range (number_in v) len) refl
       where
         cases : (c : Bool) → in_range (number_in v) len ≡ c → Alike (SameIf b) (checked_index v len) (checked_index v len)
-        cases true e = rw e (both_give (position_of (number_in v)) (position_of (number_in v)) (λ i. refl))
+        cases true e = rw e (both_give (nat_abs (number_in v)) (nat_abs (number_in v)) (λ i. refl))
         cases false e = rw e (both_raise BOUNDS)
 
     go : (c : Bool) → index_can_raise index len ≡ c → Alike (SameIf b) (checked_index v len) (checked_index w len)
@@ -64,7 +64,7 @@ index-alike s t index len b v w covered f g same = go (index_can_raise index len
     go false e =
         let left : in_range (number_in v) len ≡ true = index-in_range s index len v e f in
         let right : in_range (number_in w) len ≡ true = index-in_range t index len w e g in
-        rw (left, right) (both_give (position_of (number_in v)) (position_of (number_in w)) (λ i. ap (λ x. position_of (number_in x)) (same i)))
+        rw (left, right) (both_give (nat_abs (number_in v)) (nat_abs (number_in w)) (λ i. ap (λ x. nat_abs (number_in x)) (same i)))
 
 division-alike : (b : Bool) (d e : ℤ) (m n : ℤ) → is_zero d ≡ is_zero e → SameIf b m n →
     Alike (SameIf b) (unless_zero d m) (unless_zero e n)

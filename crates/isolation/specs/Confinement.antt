@@ -4,13 +4,14 @@ use Rattle.std.specs.Prelude.{◌≡◌, ℕ, List, [], Bool, IsTrue, IsFalse}
 use Rattle.common.specs.declared.sent.Pair.{Pair}
 use Rattle.labels.specs.Label.{Label, may_read}
 use Rattle.labels.specs.Sent.{pairs_for}
+use Rattle.resolved.specs.FaultParts.{inner_faults}
 use Rattle.resolved.specs.declared.expression.Variable.{Variable}
 use Rattle.resolved.specs.declared.statement.Exit.{Exit}
 use Rattle.resolved.specs.Tree.{Statement}
 use Rattle.resolved.specs.SourceState.{SourceState, cells}
 use Rattle.resolved.specs.Meaning.{Outcome, Ended, Stopped, state_after, statement_meaning, calls_with}
 use Rattle.resolved.specs.Exits.{has_exit, statement_exits}
-use Rattle.resolved.specs.ExitFaults.{exit_faults, inner_faults}
+use Rattle.resolved.specs.ExitFaults.{exit_faults}
 use Rattle.resolved.specs.Labelled.{Scope, Labelling, Join, ExitLabels, FitsDemands, Labelled, join_under, variable_label, channel_label, statement_demands, statement_exit_labels}
 
 -- whether a principal may read a label, and what it sees in a state of what was sent, under the program's own hierarchy

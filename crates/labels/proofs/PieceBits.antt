@@ -1,9 +1,9 @@
 -- The truth values of a row in pieces are the bits of its pieces.
-use Rattle.std.proofs.Common.{◌≡◌, refl, sym, ap, subst, ◌∙◌, ℕ, zero, suc, ◌<◌, ◌≤◌, ◌+◌, ◌-◌, ◌*◌, ◌/◌, ◌%◌, length, take, drop, min, List, [], ◌∷◌, ◌++◌, Bool, true, false, arith, ⊎_elim, ◌||◌}
+use Rattle.std.proofs.Common.{◌≡◌, refl, sym, ap, subst, ◌∙◌, ℕ, zero, suc, ◌<◌, ◌≤◌, ◌+◌, ◌-◌, ◌*◌, ◌/◌, ◌%◌, length, take, drop, min, List, [], Bool, true, false, arith, ⊎_elim, ◌||◌}
 use Rattle.std.specs.Prelude.{IsTrue, ◌==◌, bit_or, None, Some}
 use Rattle.std.specs.Int.{bit_at}
 use Rattle.std.proofs.lemmas.Bool.{cases_lt}
-use Rattle.std.proofs.lemmas.List.{ext_get_or, get_or-drop, get_or-take, get_or_append_left, get_or_at, get_or_past, length-drop, length-take, take_all}
+use Rattle.std.proofs.lemmas.List.{ext_get_or, get_or-drop, get_or-take, get_or_past, length-drop, length-take, take_all}
 use Rattle.labels.specs.Pieces.{has_piece_bit, piece_at, piece_bits}
 use Rattle.labels.specs.Row.{FirstBeyond, has}
 use Rattle.labels.specs.Words.{AreJoinedAt, FirstNew, IsWordPiece, has_bit, word}
@@ -158,29 +158,6 @@ module _ (row other : List Bool) (words others : List ℕ) (p count : ℕ) (shor
 -- a search that comes to the end
 pub search-ended : (row other : List Bool) (from at n : ℕ) → n ≡ length row → n ≤ at → NoneBeyond row other from at → FirstBeyond row other from None
 search-ended row other from at n same past none = λ i ge lt there. none i ge (omega (arith, lt, same, past)) there
-
--- ---- pieces that are put together
-pub pieces-pushed : (pieces : List (List ℕ)) (piece : List ℕ) (row : List Bool) (p : ℕ) → length pieces ≡ p → ((i : ℕ) → i < 2048 * p → has_piece_bit pieces i ≡ has row i)
-    → ((i : ℕ) → i < 2048 → has_bit piece i ≡ has row (2048 * p + i)) → (i : ℕ) → i < 2048 * (p + 1) → has_piece_bit (pieces ++ piece ∷ []) i ≡ has row i
-pieces-pushed pieces piece row p count before mine i h = ⊎_elim
-    (λ (lt : i < 2048 * p).
-    let number : i / 2048 < length pieces = omega (arith, lt, count) in
-    ap (λ xs. has_bit xs (i % 2048)) (get_or_append_left pieces (piece ∷ []) [] (i / 2048) number) ∙ before i lt)
-    (λ (ge : 2048 * p ≤ i).
-    let number : length pieces ≡ i / 2048 = omega (arith, ge, h, count) in
-    let is : 2048 * p + i % 2048 ≡ i = omega (arith, ge, h) in
-    ap (λ xs. has_bit xs (i % 2048)) (get_or_at pieces piece [] [] (i / 2048) number) ∙ (mine (i % 2048) (omega arith) ∙ ap (has row) is))
-    (cases_lt i (2048 * p))
-
--- a property of each piece
-pub pieces-each : (P : ℕ → List ℕ → Type 0) (pieces : List (List ℕ)) (piece : List ℕ) (p : ℕ) → length pieces ≡ p → ((k : ℕ) → k < p → P k (piece_at pieces k)) → P p piece
-    → (k : ℕ) → k < p + 1 → P k (piece_at (pieces ++ piece ∷ []) k)
-pieces-each P pieces piece p count before mine k h = ⊎_elim
-    (λ (lt : k < p). subst (P k) (sym (get_or_append_left pieces (piece ∷ []) [] k (omega (arith, lt, count)))) (before k lt))
-    (λ (ge : p ≤ k).
-    let here : p ≡ k = omega (arith, ge, h) in
-    subst (P k) (sym (get_or_at pieces piece [] [] k (count ∙ here))) (subst (λ j. P j piece) here mine))
-    (cases_lt k p)
 
 -- beyond the pieces no bit is set
 pub piece-past : (pieces : List (List ℕ)) (i : ℕ) → 2048 * length pieces ≤ i → has_piece_bit pieces i ≡ false

@@ -1,8 +1,9 @@
 //! The printed form of a label under a hierarchy.
 ghost use Rattle.labels.specs.Printed.{printed_label, printed_policy, printed_principal, printed_readers};
+ghost use Rattle.principals.specs.ActsFor.{PrincipalHierarchy};
 ghost use Rattle.std.specs.Fmt.{WritesOnOk};
 ghost use Rattle.std.specs.List.{join_by};
-ghost use Rattle.std.specs.Prelude.{Some, codes, flat_map, ◌++◌};
+ghost use Rattle.std.specs.Prelude.{List, Some, flat_map, ℕ, ◌++◌};
 
 use crate::label_sets::Label;
 use crate::policies::Policy;
@@ -22,55 +23,51 @@ impl fmt::Display for PrintedLabel<'_> {
 
     fn fmt<W: fmt::Write>(&self, f: &mut fmt::Formatter<W>) -> fmt::Result {
         write!(f, "{{")?;
-        write_policies(f, self.hierarchy, self.label.policies())?;
+        write_joined(f, self.hierarchy, "; ", self.label.policies())?;
         write!(f, "}}")
     }
 }
 
-fn write_policies<W: fmt::Write>(
-    f: &mut fmt::Formatter<W>,
-    hierarchy: &Hierarchy,
-    policies: &[Policy],
-) -> fmt::Result
-    ensures { WritesOnOk W.write_str_gives f.old result
-        (join_by (printed_policy hierarchy.now) (codes "; ") policies.now) f.new }
-{
-    match policies.split_first() {
-        Some((first, others)) => {
-            write_policy(f, hierarchy, first)?;
-            write_later_policies(f, hierarchy, others)
+// A part of a label: a policy, or a principal by its number.
+trait LabelPart {
+    ghost printed: { PrincipalHierarchy → Self → List ℕ };
+
+    fn write_part<W: fmt::Write>(
+        &self,
+        f: &mut fmt::Formatter<W>,
+        hierarchy: &Hierarchy,
+    ) -> fmt::Result
+        ensures { WritesOnOk W.write_str_gives f.old result (printed hierarchy.now self.now) f.new };
+}
+
+impl LabelPart for Policy {
+    ghost printed = { λ hierarchy policy. printed_policy hierarchy policy };
+
+    fn write_part<W: fmt::Write>(
+        &self,
+        f: &mut fmt::Formatter<W>,
+        hierarchy: &Hierarchy,
+    ) -> fmt::Result {
+        self.owner().write_part(f, hierarchy)?;
+        write!(f, ":")?;
+        write_readers(f, hierarchy, self.readers())
+    }
+}
+
+impl LabelPart for u32 {
+    ghost printed = { λ hierarchy number. printed_principal hierarchy number };
+
+    fn write_part<W: fmt::Write>(
+        &self,
+        f: &mut fmt::Formatter<W>,
+        hierarchy: &Hierarchy,
+    ) -> fmt::Result {
+        let number = *self;
+        match hierarchy.name(number) {
+            Some(name) => write!(f, "{name}"),
+            None => write!(f, "{number}"),
         }
-        None => Ok(()),
     }
-}
-
-fn write_later_policies<W: fmt::Write>(
-    f: &mut fmt::Formatter<W>,
-    hierarchy: &Hierarchy,
-    policies: &[Policy],
-) -> fmt::Result
-    ensures { WritesOnOk W.write_str_gives f.old result
-        (flat_map (λ policy. codes "; " ++ printed_policy hierarchy.now policy) policies.now)
-        f.new }
-{
-    for policy in policies {
-        write!(f, "; ")?;
-        write_policy(f, hierarchy, policy)?;
-    }
-    Ok(())
-}
-
-fn write_policy<W: fmt::Write>(
-    f: &mut fmt::Formatter<W>,
-    hierarchy: &Hierarchy,
-    policy: &Policy,
-) -> fmt::Result
-    ensures { WritesOnOk W.write_str_gives f.old result (printed_policy hierarchy.now policy.now)
-        f.new }
-{
-    write_principal(f, hierarchy, policy.owner())?;
-    write!(f, ":")?;
-    write_readers(f, hierarchy, policy.readers())
 }
 
 fn write_readers<W: fmt::Write>(
@@ -82,41 +79,46 @@ fn write_readers<W: fmt::Write>(
         f.new }
 {
     match readers.split_first() {
-        Some((first, others)) => {
+        Some(_) => {
             write!(f, " ")?;
-            write_principal(f, hierarchy, *first)?;
-            write_later_readers(f, hierarchy, others)
+            write_joined(f, hierarchy, ", ", readers)
         }
         None => Ok(()),
     }
 }
 
-fn write_later_readers<W: fmt::Write>(
+// Writes parts with a separator between them.
+fn write_joined<W: fmt::Write, P: LabelPart>(
     f: &mut fmt::Formatter<W>,
     hierarchy: &Hierarchy,
-    readers: &[u32],
+    separator: &str,
+    parts: &[P],
 ) -> fmt::Result
     ensures { WritesOnOk W.write_str_gives f.old result
-        (flat_map (λ reader. codes ", " ++ printed_principal hierarchy.now reader) readers.now)
-        f.new }
+        (join_by (P.printed hierarchy.now) separator.now parts.now) f.new }
 {
-    for reader in readers {
-        write!(f, ", ")?;
-        write_principal(f, hierarchy, *reader)?;
+    match parts.split_first() {
+        Some((first, others)) => {
+            first.write_part(f, hierarchy)?;
+            write_later(f, hierarchy, separator, others)
+        }
+        None => Ok(()),
     }
-    Ok(())
 }
 
-fn write_principal<W: fmt::Write>(
+// Writes parts with a separator before each.
+fn write_later<W: fmt::Write, P: LabelPart>(
     f: &mut fmt::Formatter<W>,
     hierarchy: &Hierarchy,
-    number: u32,
+    separator: &str,
+    parts: &[P],
 ) -> fmt::Result
-    ensures { WritesOnOk W.write_str_gives f.old result (printed_principal hierarchy.now number)
-        f.new }
+    ensures { WritesOnOk W.write_str_gives f.old result
+        (flat_map (λ part. separator.now ++ P.printed hierarchy.now part) parts.now) f.new }
 {
-    match hierarchy.name(number) {
-        Some(name) => write!(f, "{name}"),
-        None => write!(f, "{number}"),
+    for part in parts {
+        write!(f, "{separator}")?;
+        part.write_part(f, hierarchy)?;
     }
+    Ok(())
 }

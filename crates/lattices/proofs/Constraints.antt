@@ -6,6 +6,7 @@ use Rattle.std.specs.List.{list_all}
 use Rattle.std.proofs.lemmas.Bool.{and_parts, and_from, or_left, or_right, or_cases, not-false, not-true}
 use Rattle.std.proofs.lemmas.List.Elements.{Contains-append_cases, Contains-append_left, Contains-append_right}
 use Rattle.common.proofs.Elements.{none_in_nil, Contains-cons_cases, Contains-later, Contains-first}
+use Rattle.common.proofs.Leading.{IsLeading, leading-cases, leading-itself, leading-one, leading-through}
 use Rattle.lattices.specs.Lattice.{Lattice, LatticeLaws}
 use Rattle.lattices.specs.Constraints.{Atom, Written, Unknown, Constraint, is_written, value, join_of, holds, FitsAll, FitsUnknowns, IsLeast, first_unmet, Reaches, directly, onward, Linked, ends, goes_on, IsChain, IsRefusedAt, Occurs}
 
@@ -189,41 +190,8 @@ module _ {U : Type 0} (eq : U → U → Bool) (eq-same : (a b : U) → eq a b �
   leads [] a b = eq a b
   leads (link ∷ links) a b = leads links a b || (leads links a link.0 && leads links link.1 b)
 
-  pub leads-itself : (links : List (U × U)) (a : U) → IsTrue (leads links a a)
-  leads-itself [] a = eq-itself a
-  leads-itself (link ∷ links) a = or_left _ _ (leads-itself links a)
-
-  leads-first : (link : U × U) (links : List (U × U)) (a b : U) → IsTrue (leads links a link.0) → IsTrue (leads links link.1 b) →
-      IsTrue (leads (link ∷ links) a b)
-  leads-first link links a b h k = or_right (leads links a b) _ (and_from _ _ h k)
-
-  leads-cases : (link : U × U) (links : List (U × U)) (a b : U) → IsTrue (leads (link ∷ links) a b) →
-      IsTrue (leads links a b) ⊎ (IsTrue (leads links a link.0) × IsTrue (leads links link.1 b))
-  leads-cases link links a b h =
-      ⊎_elim inl (λ k. inr (and_parts (leads links a link.0) (leads links link.1 b) k)) (or_cases (leads links a b) _ h)
-
-  pub leads-through : (links : List (U × U)) (a b c : U) → IsTrue (leads links a b) → IsTrue (leads links b c) → IsTrue (leads links a c)
-  leads-through [] a b c h k = subst (λ x. IsTrue (eq a x)) (eq-same b c k) h
-  leads-through (link ∷ links) a b c h k =
-      ⊎_elim
-      (λ h'. ⊎_elim
-      (λ k'. or_left _ _ (leads-through links a b c h' k'))
-      (λ k'. leads-first link links a c (leads-through links a b link.0 h' k'.0) k'.1)
-      (leads-cases link links b c k))
-      (λ h'. ⊎_elim
-      (λ k'. leads-first link links a c h'.0 (leads-through links link.1 b c h'.1 k'))
-      (λ k'. leads-first link links a c h'.0 k'.1)
-      (leads-cases link links b c k))
-      (leads-cases link links a b h)
-
-  pub leads-one : (links : List (U × U)) (a b : U) → Contains links (a, b) → IsTrue (leads links a b)
-  leads-one [] a b h = absurd (none_in_nil (a, b) h)
-  leads-one (link ∷ links) a b h =
-      ⊎_elim
-      (λ e. let P : U × U → Type 0 = λ p. IsTrue (leads (link ∷ links) p.0 p.1) in
-      subst P e (leads-first link links link.0 link.1 (leads-itself links link.0) (leads-itself links link.1)))
-      (λ k. or_left _ _ (leads-one links a b k))
-      (Contains-cons_cases link links (a, b) h)
+  leads-leading : IsLeading leads
+  leads-leading = record { itself = eq-itself; alone = eq-same; on = λ link links a b. refl }
 
   -- each property that is kept along the links is kept along what they lead to
   pub leads-kept : (P : U → Type 0) (links : List (U × U)) → ((a b : U) → Contains links (a, b) → P a → P b) → (a b : U) →
@@ -234,7 +202,7 @@ module _ {U : Type 0} (eq : U → U → Bool) (eq-same : (a b : U) → eq a b �
       ⊎_elim
       (λ k. leads-kept P links later a b k p)
       (λ k. leads-kept P links later link.1 b k.1 (kept link.0 link.1 (Contains-first link links) (leads-kept P links later a link.0 k.0 p)))
-      (leads-cases link links a b h)
+      (leading-cases leads leads-leading link links a b h)
 
   module _ {V : Type 0} where
     -- the links from the unknowns of a left side, and those of constraints
@@ -373,12 +341,12 @@ module _ {U : Type 0} (eq : U → U → Bool) (eq-same : (a b : U) → eq a b �
 
     -- they are those that reach it
     pub reaching-has : {N : Type 0} (cs : List (Constraint N U V)) (v : V) (u : U) → Reaches cs v u → Contains (reaching cs u) v
-    reaching-has cs v u reach = go u reach u (leads-itself (links_of cs) u)
+    reaching-has cs v u reach = go u reach u (leading-itself leads leads-leading (links_of cs) u)
       where
         go : (w : U) → Reaches cs v w → (u : U) → IsTrue (leads (links_of cs) w u) → Contains (reaching cs u) v
         go w (directly c _ h from is) u lead = written_for-has (links_of cs) u w cs c v h from is lead
         go w (onward c x _ reach h from is) u lead =
-            go x reach u (leads-through (links_of cs) x w u (leads-one (links_of cs) x w (links_of-has cs c x w h from is)) lead)
+            go x reach u (leading-through leads leads-leading (links_of cs) x w u (leading-one leads leads-leading (links_of cs) x w (links_of-has cs c x w h from is)) lead)
 
     pub reaching-only : {N : Type 0} (cs : List (Constraint N U V)) (v : V) (u : U) → Contains (reaching cs u) v → Reaches cs v u
     reaching-only cs v u h =

@@ -12,10 +12,10 @@ use Rattle.modules.specs.declared.version.Version.{Version}
 use Rattle.modules.specs.declared.declaration.Handler.{Handler}
 use Rattle.modules.specs.Code.{code_length}
 use Rattle.modules.specs.Contents.{ProcedureContents, ModuleContents}
-use Rattle.modules.specs.ByteFormat.{Fits, FitEach, IsCoded, Code}
-use Rattle.modules.specs.Opcodes.{instructions}
+use Rattle.modules.specs.ByteFormat.{Fits, FitEach, Code}
+use Rattle.modules.specs.Opcodes.{HasSpelling}
 use Rattle.modules.specs.Format.{handler, handlers, procedure, procedures, may_start, main, program, contents, module_file}
-use Rattle.modules.proofs.Spelling.{is_spelled, spelled-length}
+use Rattle.modules.proofs.Spelling.{bytes-length}
 use Rattle.modules.specs.Targets.{target_of, renamed_instruction, renamed_handler}
 use Rattle.layout.specs.Offsets.{offset, laid_out_procedure, laid_out}
 use Rattle.layout.specs.Graph.{HasTargetIn, IsHandlerIn, HasPositions, IsGraph}
@@ -29,28 +29,28 @@ pub length-renamed : (f : ℕ → ℕ) (code : List Instruction) → code_length
 length-renamed f [] = refl
 length-renamed f (x ∷ code) = omega (arith, width-renamed f x, length-renamed f code)
 
-coded : (version : Version) (f : ℕ → ℕ) (x : Instruction) → IfSome (target_of x) (λ target. f target < 2 ^ 32) → IsCoded (instructions version) x → IsCoded (instructions version) (renamed_instruction f x)
-coded version f (Jump target) small h = is_spelled version (Jump (f target)) refl small
-coded version f (JumpIfFalse target) small h = is_spelled version (JumpIfFalse (f target)) refl small
+coded : (version : Version) (f : ℕ → ℕ) (x : Instruction) → IfSome (target_of x) (λ target. f target < 2 ^ 32) → HasSpelling version x → HasSpelling version (renamed_instruction f x)
+coded version f (Jump target) small h = (refl, small)
+coded version f (JumpIfFalse target) small h = (refl, small)
 coded version f x small h = h
 
 target-small : (code : List Instruction) (target : Option ℕ) → code_length code < 2 ^ 32 → IfSome target (λ t. t < length code) → IfSome target (λ t. offset code t < 2 ^ 32)
 target-small code None short below = below
 target-small code (Some t) short below = omega (arith, offset-within code t (omega (arith, below)))
 
-all_coded : (version : Version) (code rest : List Instruction) → code_length code < 2 ^ 32 → All (HasTargetIn code) rest → AllByRecursion (IsCoded (instructions version)) rest → AllByRecursion (IsCoded (instructions version)) (map (renamed_instruction (offset code)) rest)
+all_coded : (version : Version) (code rest : List Instruction) → code_length code < 2 ^ 32 → All (HasTargetIn code) rest → AllByRecursion (HasSpelling version) rest → AllByRecursion (HasSpelling version) (map (renamed_instruction (offset code)) rest)
 all_coded version code [] short targets h = tt
 all_coded version code (x ∷ rest) short targets h = (
   coded version (offset code) x (target-small code (target_of x) short (All-head (HasTargetIn code) x rest targets)) h.0,
   all_coded version code rest short (All-tail (HasTargetIn code) x rest targets) h.1,
 )
 
-code_short : (version : Version) (code : List Instruction) → Fits (Code (instructions version)) code → code_length code < 2 ^ 32
-code_short version code h = omega (arith, h.0, spelled-length version code)
+code_short : (version : Version) (code : List Instruction) → Fits (Code version) code → code_length code < 2 ^ 32
+code_short version code h = omega (arith, h.0, bytes-length code)
 
-code_fits : (version : Version) (code : List Instruction) → All (HasTargetIn code) code → Fits (Code (instructions version)) code → Fits (Code (instructions version)) (map (renamed_instruction (offset code)) code)
+code_fits : (version : Version) (code : List Instruction) → All (HasTargetIn code) code → Fits (Code version) code → Fits (Code version) (map (renamed_instruction (offset code)) code)
 code_fits version code targets h = (
-  omega (arith, code_short version code h, length-renamed (offset code) code, spelled-length version (map (renamed_instruction (offset code)) code)),
+  omega (arith, code_short version code h, length-renamed (offset code) code, bytes-length (map (renamed_instruction (offset code)) code)),
   all_coded version code code (code_short version code h) targets h.1,
 )
 

@@ -12,7 +12,8 @@ use Rattle.modules.specs.declared.declaration.Handler.{Handler}
 use Rattle.modules.specs.declared.declaration.Slot.{Slot}
 use Rattle.modules.specs.Code.{width_of, instruction_at}
 use Rattle.modules.specs.Contents.{ProcedureContents, ModuleContents}
-use Rattle.modules.specs.Machine.{Header, MachineCode, Machine, Running, Ended, Stuck, Ending, header_of, code_of, handlers_of, slots_in, position_after, handler_for, machine_code, first_state, new_frame, exec, after_steps, sent_of}
+use Rattle.modules.specs.Machine.{Header, MachineCode, Machine, Running, Ended, Stuck, Ending, header_of, handler_for, machine_code, first_state, new_frame, exec, after_steps, sent_of}
+use Rattle.modules.specs.MachineParts.{code_of, handlers_of, slots_in, position_after}
 use Rattle.modules.specs.Targets.{renamed_instruction, renamed_handler}
 use Rattle.layout.specs.Offsets.{offset, laid_out_procedure, laid_out, offset_in}
 use Rattle.layout.specs.Runs.{graph_program, graph_after_steps}

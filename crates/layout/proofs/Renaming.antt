@@ -6,7 +6,8 @@ use Rattle.modules.proofs.Alike.{act-alike, with_sent, with_memory}
 use Rattle.modules.specs.declared.instruction.Instruction.{Instruction}
 use Rattle.modules.specs.declared.value.Cell.{Cell}
 use Rattle.modules.specs.declared.declaration.Slot.{Slot}
-use Rattle.modules.specs.Machine.{Frame, Caller, State, Machine, Running, Ended, Stuck, Deep, MachineCode, goes_on, goes_to, handled, unwound, raised, new_frame, enters, leaves, leaves_value, act, acts, step, exec}
+use Rattle.modules.specs.Machine.{Frame, Caller, State, Machine, Running, Ended, Stuck, Deep, MachineCode, goes_on, goes_to, handled, unwound, raised, new_frame, enters, act, step, exec}
+use Rattle.modules.specs.MachineParts.{leaves, leaves_value, acts}
 use Rattle.modules.specs.Targets.{renamed_instruction}
 use Rattle.layout.specs.SameRuns.{renamed_frame, renamed_caller, renamed_state, renamed}
 use Rattle.common.specs.declared.limits.TheConstants.{MAX_FRAMES}

@@ -4,7 +4,7 @@ use Rattle.std.specs.Prelude.{ℕ, zero, suc, ◌+◌, List, [], ◌∷◌, map,
 use Rattle.modules.specs.declared.instruction.Instruction.{Instruction}
 use Rattle.modules.specs.Code.{width_of}
 use Rattle.modules.specs.Contents.{ProcedureContents, ModuleContents}
-use Rattle.modules.specs.Machine.{code_of}
+use Rattle.modules.specs.MachineParts.{code_of}
 use Rattle.modules.specs.Targets.{renamed_instruction, renamed_handler}
 
 -- the byte offset of a position: the bytes of the instructions before it. At the end of the code that is how many bytes the code

@@ -3,7 +3,8 @@
 use Rattle.std.specs.Prelude.{ℕ, ◌+◌, List, slice_get, ℤ}
 use Rattle.common.specs.declared.sent.Pair.{Pair}
 use Rattle.modules.specs.Contents.{ModuleContents}
-use Rattle.modules.specs.Machine.{MachineCode, machine_code, code_of, Machine, Running, first_state, exec, sent_of}
+use Rattle.modules.specs.Machine.{MachineCode, machine_code, Machine, Running, first_state, exec, sent_of}
+use Rattle.modules.specs.MachineParts.{code_of}
 
 -- the program of a graph. The instruction at a position is the one with that number, and the next position is one more; else it is
 -- what it is for a module: a handler holds an instruction where its range holds the instruction's position

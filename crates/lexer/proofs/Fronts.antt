@@ -1,12 +1,13 @@
 -- What a lexeme is, by the class of its first character.
-use Rattle.std.proofs.Common.{◌≡◌, ℕ, ◌≤◌, ◌==◌, ◌&&◌, ◌||◌, Bool, true, false, not, cond, List, [], ◌∷◌, Option, Some, None, length, refl, sym, ap, subst, ◌∙◌, inl, inr, arith, unwrap_or, is_some}
+use Rattle.std.proofs.Common.{◌≡◌, ℕ, ◌≤◌, ◌==◌, ◌&&◌, ◌||◌, Bool, true, false, not, cond, List, [], ◌∷◌, Option, Some, None, length, refl, sym, ap, subst, ◌∙◌, inl, inr, arith, unwrap_or, is_some, ◌++◌, codes}
 use Rattle.std.proofs.lemmas.Bool.{and_parts, or_cases, eqb-true, le-leb, lt-leb, cond-true, cond-false}
 use Rattle.std.specs.Char.{is_ascii_digit, is_ascii_lowercase}
 use Rattle.std.specs.List.{list_all}
 use Rattle.std.specs.Prelude.{nat_le}
 use Rattle.std.specs.Str.Parse.{digits_value}
 use Rattle.lexer.specs.Words.{is_white_space, is_name, may_continue, keyword_of, keywords}
-use Rattle.lexer.specs.Lexeme.{Lexeme, Word, Gap, LargeLiteral, OpenComment, IsLexeme, Blank, LineComment, BlockComment, Unended, Keyword, Identifier, Literal, TooLarge, Sign, IsInLine, HasNoCommentEnd, IsClosed, IsNumeral, sign_of, signs}
+use Rattle.lexer.specs.Lexeme.{Lexeme, Word, Gap, LargeLiteral, OpenComment, IsLexeme, Blank, LineComment, BlockComment, Unended, Keyword, Identifier, Literal, TooLarge, Sign, IsInLine, HasNoCommentEnd, IsNumeral, sign_of, signs}
+use Rattle.lexer.proofs.Closed.{IsClosed, closed_by}
 use Rattle.lexer.specs.declared.token.Kind.{Kind}
 use Rattle.lexer.specs.declared.token.Kind.TheVariants.{Slash, Name, Integer}
 use Rattle.lexer.proofs.Letters.{Class, White, Digit, Letter, Solidus, Other, class_of, class-White, class-Digit, class-Letter, class-Solidus, class-Other, is_sign_first, lowercase_begins, lowercase_continues}
@@ -130,7 +131,7 @@ shape lexeme text c cs (Blank d white) e =
     let others : [] ≡ cs = cc in
     known White c cs Gap (class-White c (subst (λ x. is_white_space x ≡ true) first white)) (refl, sym others)
 shape lexeme text c cs (LineComment body line) e = at_solidus c cs (47 ∷ body) Gap e (Line body line)
-shape lexeme text c cs (BlockComment body closed) e = at_solidus c cs (42 ∷ body) Gap e (Block body closed)
+shape lexeme text c cs (BlockComment body none) e = at_solidus c cs (42 ∷ (body ++ codes "*/")) Gap e (Block (body ++ codes "*/") (closed_by body none))
 shape lexeme text c cs (Unended body unclosed) e = at_solidus c cs (42 ∷ body) OpenComment e (Unclosed body unclosed)
 shape lexeme text c cs (Keyword word kind found) e =
     keyword_shape c cs kind (subst (λ t. keyword_of t ≡ Some kind) e found)

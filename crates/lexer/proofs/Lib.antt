@@ -1,5 +1,6 @@
 pub mod Runs
 pub mod Tables
+pub mod Closed
 pub mod Fronts
 pub mod Letters
 pub mod Nexts

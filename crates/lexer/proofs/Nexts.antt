@@ -7,7 +7,8 @@ use Rattle.std.specs.Prelude.{nat_le}
 use Rattle.std.specs.Str.Parse.{digits_value}
 use Rattle.std.proofs.lemmas.List.Prefix.{front_fits}
 use Rattle.lexer.specs.Words.{is_white_space, is_identifier, may_begin, may_continue, keyword_of}
-use Rattle.lexer.specs.Lexeme.{Lexeme, Word, Gap, OpenComment, IsLexeme, Blank, LineComment, BlockComment, Unended, Keyword, Identifier, Literal, TooLarge, Sign, IsInLine, HasNoCommentEnd, IsClosed, IsNumeral, sign_of}
+use Rattle.lexer.specs.Lexeme.{Lexeme, Word, Gap, OpenComment, IsLexeme, Blank, LineComment, BlockComment, Unended, Keyword, Identifier, Literal, TooLarge, Sign, IsInLine, HasNoCommentEnd, IsNumeral, sign_of}
+use Rattle.lexer.proofs.Closed.{IsClosed, open_before}
 use Rattle.lexer.specs.Cut.{IsNextLexeme, HasNoLexeme}
 use Rattle.lexer.specs.Scan.{IsNoDouble, IsNoTriple}
 use Rattle.lexer.specs.declared.token.Kind.{Kind}
@@ -136,7 +137,7 @@ after_block cs rest closed lexeme tail more e (Unclosed body unclosed) =
 pub next_block : (cs rest : List ℕ) → IsClosed cs → IsNextLexeme (47 ∷ 42 ∷ (cs ++ rest)) Gap (47 ∷ 42 ∷ cs) rest
 next_block cs rest closed = record {
   text_is = refl;
-  is = BlockComment cs closed;
+  is = subst (λ t. IsLexeme Gap (47 ∷ 42 ∷ t)) (sym closed.ends) (BlockComment closed.inner (open_before cs closed));
   longest = bounded Solidus 47 (42 ∷ (cs ++ rest)) (suc (length cs)) class-Solidus (after_block cs rest closed);
 }
 

@@ -16,7 +16,8 @@ use Rattle.std.proofs.lemmas.Str.Ascii.{IsAscii-nil, IsAscii-cons}
 use Rattle.std.proofs.lemmas.Str.Parse.{IsDigitsTest, numerals_by_value, parse_digits}
 use Rattle.std.proofs.lemmas.List.{nil_from_length}
 use Rattle.lexer.specs.Words.{is_white_space, may_begin, may_continue}
-use Rattle.lexer.specs.Lexeme.{Lexeme, Word, Gap, LargeLiteral, OpenComment, HasNoCommentEnd, IsClosed}
+use Rattle.lexer.specs.Lexeme.{Lexeme, Word, Gap, LargeLiteral, OpenComment, HasNoCommentEnd}
+use Rattle.lexer.proofs.Closed.{IsClosed}
 use Rattle.lexer.specs.Cut.{IsNextLexeme}
 use Rattle.lexer.specs.Scan.{after_run, after_close, IsTail, begins_sign}
 use Rattle.lexer.specs.declared.token.Kind.TheVariants.{Integer}

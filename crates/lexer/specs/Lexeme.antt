@@ -22,28 +22,14 @@ signs =
     ∷ (codes "!", Not) ∷ (codes "&&", And) ∷ (codes "||", Or) ∷ (codes "&", BitAnd) ∷ (codes "|", BitOr)
     ∷ (codes "^", BitXor) ∷ (codes "<<", ShiftLeft) ∷ (codes ">>", ShiftRight) ∷ (codes ">>>", ShiftRightUnsigned) ∷ []
 
--- the kind of the sign that the characters are, if they are one
-abbrev pub sign_of : List ℕ → Option Kind
-sign_of cs = lookup (bytes_eq cs) signs
-
 -- one decimal digit or more
 pub record IsNumeral (cs : List ℕ) : Type 0 where
   pub nonempty : 0 < length cs
   pub digits : IsTrue (list_all is_ascii_digit cs)
 
--- no character is a line feed
-abbrev pub IsInLine : List ℕ → Type 0
-IsInLine cs = IsTrue (list_all (λ c. not (c == 10)) cs)
-
 -- no `*/` stands in the characters
 abbrev pub HasNoCommentEnd : List ℕ → Type 0
 HasNoCommentEnd cs = (before after : List ℕ) → cs ≢ before ++ (codes "*/" ++ after)
-
--- the characters end with `*/`, and no other `*/` stands in them
-pub record IsClosed (cs : List ℕ) : Type 0 where
-  pub inner : List ℕ
-  pub ends : cs ≡ inner ++ codes "*/"
-  pub once : (before after : List ℕ) → cs ≡ before ++ (codes "*/" ++ after) → after ≡ []
 
 -- what a lexeme is
 pub data Lexeme : Type 0 where
@@ -60,10 +46,10 @@ pub data Lexeme : Type 0 where
 pub data IsLexeme : Lexeme → List ℕ → Type 0 where
   -- one character of white space
   Blank : (c : ℕ) → IsTrue (is_white_space c) → IsLexeme Gap (c ∷ [])
-  -- `//` and characters of the same line
-  LineComment : (cs : List ℕ) → IsInLine cs → IsLexeme Gap (codes "//" ++ cs)
+  -- `//` and characters of the same line, which are no line feed
+  LineComment : (cs : List ℕ) → IsTrue (list_all (λ c. not (c == 10)) cs) → IsLexeme Gap (codes "//" ++ cs)
   -- `/*` and what follows up to the first `*/`
-  BlockComment : (cs : List ℕ) → IsClosed cs → IsLexeme Gap (codes "/*" ++ cs)
+  BlockComment : (cs : List ℕ) → HasNoCommentEnd (cs ++ codes "*") → IsLexeme Gap (codes "/*" ++ (cs ++ codes "*/"))
   -- `/*` and what follows, where no `*/` stands
   Unended : (cs : List ℕ) → HasNoCommentEnd cs → IsLexeme OpenComment (codes "/*" ++ cs)
   -- a word of the table of keywords
@@ -76,4 +62,14 @@ pub data IsLexeme : Lexeme → List ℕ → Type 0 where
   -- decimal digits of a number above the greatest
   TooLarge : (cs : List ℕ) → IsNumeral cs → MAX_INTEGER < digits_value 10 cs → IsLexeme LargeLiteral cs
   -- a sign of the table
-  Sign : (cs : List ℕ) (kind : Kind) → sign_of cs ≡ Some kind → IsLexeme (Word kind) cs
+  Sign : (cs : List ℕ) (kind : Kind) → lookup (bytes_eq cs) signs ≡ Some kind → IsLexeme (Word kind) cs
+
+-- ---- parts of the rules, by which proofs speak of them
+
+-- the kind of the sign that the characters are, if they are one
+abbrev pub sign_of : List ℕ → Option Kind
+sign_of cs = lookup (bytes_eq cs) signs
+
+-- no character is a line feed
+abbrev pub IsInLine : List ℕ → Type 0
+IsInLine cs = IsTrue (list_all (λ c. not (c == 10)) cs)

@@ -1,7 +1,7 @@
-ghost use Rattle.lexer.specs.RefusalKinds.{lex_refusal_number, lex_refusal_words};
-ghost use Rattle.std.specs.Prelude.{◌≡◌, Some};
+ghost use Rattle.lexer.specs.RefusalKinds.{lex_message};
+ghost use Rattle.std.specs.Prelude.{Some};
 
-use common::OrNoMemory;
+use common::{Message, OrNoMemory, Reported};
 use std::error::Error;
 use std::fmt;
 
@@ -16,26 +16,14 @@ pub enum LexRefusalKind {
     UnclosedComment,
 }
 
-impl LexRefusalKind {
-    /// The number that the refusal is reported by, 101 to 103.
-    pub fn number(self) -> u32
-        ensures { result ≡ lex_refusal_number self }
-    {
-        match self {
-            LexRefusalKind::NoToken => 101,
-            LexRefusalKind::LiteralTooLarge => 102,
-            LexRefusalKind::UnclosedComment => 103,
-        }
-    }
+impl Reported for LexRefusalKind {
+    ghost contents = { lex_message };
 
-    /// The words that the refusal is reported by.
-    pub fn words(self) -> &'static str
-        ensures { result.now ≡ lex_refusal_words self }
-    {
+    fn message(&self) -> Message {
         match self {
-            LexRefusalKind::NoToken => "no token",
-            LexRefusalKind::LiteralTooLarge => "literal too large",
-            LexRefusalKind::UnclosedComment => "open comment",
+            LexRefusalKind::NoToken => Message::new(101, "no token"),
+            LexRefusalKind::LiteralTooLarge => Message::new(102, "literal too large"),
+            LexRefusalKind::UnclosedComment => Message::new(103, "open comment"),
         }
     }
 }
@@ -48,7 +36,7 @@ pub struct LexRefusal {
 }
 
 impl fmt::Display for LexRefusal {
-    ghost output = { λ refusal. Some (lex_refusal_words refusal.kind) };
+    ghost output = { λ refusal. Some (lex_message refusal.kind).words };
 
     fn fmt<W: fmt::Write>(&self, f: &mut fmt::Formatter<W>) -> fmt::Result {
         write!(f, "{}", self.kind.words())

@@ -25,7 +25,8 @@ use Rattle.isolation.proofs.Valued.{calls-give}
 use Rattle.modules.specs.declared.value.Cell.{Cell}
 use Rattle.modules.specs.declared.instruction.Instruction.TheVariants as instruction
 use Rattle.modules.specs.Machine as machine
-use Rattle.modules.specs.Machine.{Machine, Running, State, Caller, Header, handled, unwound, calls, enters, popped, new_frame}
+use Rattle.modules.specs.Machine.{Machine, Running, State, Caller, Header, handled, unwound, enters, popped, new_frame}
+use Rattle.modules.specs.MachineParts.{calls}
 use Rattle.lowering.specs.Interface.{slot_contents}
 use Rattle.lowering.specs.Code.{block_falls, block_size, block_code, block_table}
 use Rattle.lowering.specs.Graphs.{end_code, no_loop, body_code}

@@ -5,13 +5,14 @@ use Rattle.std.specs.Prelude.{filter, if◌then◌else◌}
 use Rattle.std.proofs.lemmas.List.Folds.{list_any-append}
 use Rattle.std.proofs.lemmas.Bool.{or_parts, and_parts, or_cases}
 use Rattle.std.proofs.Math.Bool.{or-true}
+use Rattle.resolved.specs.FaultParts.{place_of, may_stand, inner_faults}
 use Rattle.resolved.specs.declared.statement.Exit.{Exit}
 use Rattle.resolved.specs.declared.statement.Exit.TheVariants.{Normal, Return, Break, Continue, Throw}
 use Rattle.common.specs.declared.base_type.BaseType.TheVariants.{Boolean}
-use Rattle.resolved.specs.Tree.{Expression, Statement, Assign, Clear, Store, Receive, Send, Call, If, While, Leave, ReturnWith, Try, Nested, Block, Empty, Then, Handlers, NoMore, Catch, place_of}
+use Rattle.resolved.specs.Tree.{Expression, Statement, Assign, Clear, Store, Receive, Send, Call, If, While, Leave, ReturnWith, Try, Nested, Block, Empty, Then, Handlers, NoMore, Catch}
 use Rattle.resolved.specs.Program.{Program, ProcedureEntry}
 use Rattle.resolved.specs.Exits.{same_exit, has_exit, raises, thrown_exits, passes, then_exits, statement_exits, block_exits, handlers_exits}
-use Rattle.resolved.specs.ExitFaults.{fault_unless, may_stand, inner_faults, block_faults, handlers_faults}
+use Rattle.resolved.specs.ExitFaults.{fault_unless, block_faults, handlers_faults}
 use Rattle.resolved.specs.declared.fault.ExitRefusalKind.TheVariants.{OutsideLoop, Unreachable, NeverRaised}
 use Rattle.resolved.specs.WellFormed.{has_base, is_exception, statement_fits, block_fits, handlers_fit}
 use Rattle.modules.specs.declared.instruction.Instruction.{Instruction}
@@ -21,7 +22,7 @@ use Rattle.lowering.specs.Expressions.{value_code, branch_size, branch_code}
 use Rattle.lowering.specs.Code.{Loop, statement_falls, block_falls, handlers_fall, jump_size, jump_code, jumps_over, jumps_after, leave_code, return_code, statement_size, block_size, handlers_size, statement_code, block_code, handlers_code}
 use Rattle.lowering.proofs.Unreached.{statement-none}
 use Rattle.common.proofs.Cases.{by_test, append_empty}
-use Rattle.resolved.proofs.Exits.{no_fault-test, end-filter}
+use Rattle.resolved.proofs.Exits.{no_fault-test, end-filter, faults-in_parts}
 
 -- code that is not empty, and whose last instruction does not go on
 pub record Stops (code : List Instruction) : Type 0 where
@@ -81,7 +82,7 @@ module _ (program : Program) (procedure : ProcedureEntry) where
   rest-stops in_loop loop position goes code (Then statement rest) none faults stops =
       let first = fault_unless (may_stand in_loop statement) OutsideLoop (place_of statement) in
       let second = fault_unless goes Unreachable (place_of statement) in
-      let later = append_empty (first ++ second ++ inner_faults program in_loop statement) _ faults in
+      let later = append_empty (first ++ second ++ inner_faults program in_loop statement) _ (sym (faults-in_parts program in_loop goes rest statement) ∙ faults) in
       let here = append_empty (first ++ second) (inner_faults program in_loop statement) later.0 in
       let reached : goes ≡ true = no_fault-test goes Unreachable (place_of statement) (append_empty first second here.0).1 in
       absurd (let no : true ≡ false = sym reached ∙ none in cc)
@@ -122,7 +123,7 @@ module _ (program : Program) (procedure : ProcedureEntry) where
         let first = fault_unless (may_stand in_loop statement) OutsideLoop (place_of statement) in
         let second = fault_unless reached Unreachable (place_of statement) in
         let goes = has_exit (statement_exits program statement) Normal in
-        let later = append_empty (first ++ second ++ inner_faults program in_loop statement) (block_faults program in_loop goes rest) faults in
+        let later = append_empty (first ++ second ++ inner_faults program in_loop statement) (block_faults program in_loop goes rest) (sym (faults-in_parts program in_loop reached rest statement) ∙ faults) in
         let here = append_empty (first ++ second) (inner_faults program in_loop statement) later.0 in
         let parts = and_parts (statement_fits program procedure statement) (block_fits program procedure rest) fits in
         by_test (statement_falls statement)

@@ -9,7 +9,8 @@ use Rattle.resolved.specs.declared.expression.Variable.TheVariants.{Global, Loca
 use Rattle.resolved.specs.declared.statement.Exit.TheVariants.{Normal}
 use Rattle.resolved.specs.Program.{Program, ProcedureEntry, ResultEntry}
 use Rattle.resolved.specs.Exits.{has_exit, block_exits}
-use Rattle.resolved.specs.ExitFaults.{fault_unless, block_faults, may_exit, procedure_faults, exit_faults}
+use Rattle.resolved.specs.ExitFaults.{fault_unless, block_faults, procedure_faults, exit_faults}
+use Rattle.resolved.specs.FaultParts.{may_exit}
 use Rattle.resolved.specs.declared.fault.ExitRefusalKind.TheVariants.{NoValueReturned, Undeclared}
 use Rattle.resolved.specs.WellFormed.{variable_type, well_formed, block_fits}
 use Rattle.resolved.proofs.WellFormedParts as parts

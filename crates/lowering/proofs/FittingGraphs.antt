@@ -19,13 +19,13 @@ use Rattle.modules.specs.declared.instruction.Instruction.TheVariants as instruc
 use Rattle.modules.specs.declared.declaration.Handler.{Handler}
 use Rattle.common.specs.declared.base_type.BaseType.{BaseType}
 use Rattle.common.specs.declared.base_type.BaseType.TheVariants as kind
-use Rattle.modules.specs.ByteFormat.{Fits, FitEach, IsCoded, Code}
+use Rattle.modules.specs.ByteFormat.{Fits, FitEach, Code}
 use Rattle.modules.specs.Format.{returned, handler, handlers, procedure, procedures, may_start, main, program as program_field, version as version_field, contents, module_file}
 use Rattle.modules.specs.declared.version.Version.{Version}
 use Rattle.modules.specs.declared.version.Version.TheVariants.{One, Two}
 use Rattle.modules.specs.Targets.{renamed_instruction}
-use Rattle.modules.specs.Opcodes.{OperandFits, entry_of, has_instruction, instructions}
-use Rattle.modules.proofs.Spelling.{is_spelled, spelled-length}
+use Rattle.modules.specs.Opcodes.{HasSpelling, OperandFits, entry_of, has_instruction}
+use Rattle.modules.proofs.Spelling.{bytes-length}
 use Rattle.layout.specs.Graph.{IsHandlerIn, HasTargetIn, HasPositions}
 use Rattle.lowering.specs.Interface.{module_version, returned_kind}
 use Rattle.lowering.specs.Code.{block_falls, block_size, block_code, block_table}
@@ -58,18 +58,18 @@ numbered-fits version n (instruction.Operate operator) room h there = tt
 numbered-fits version n x room h there = h
 
 -- with its target below the length of short code, an instruction has its spelling
-numbered-coded : (version : Version) (n : ℕ) (x : Instruction) → n < 2 ^ 32 → IsNumbered version x → Below n x → IsCoded (instructions version) x
-numbered-coded version n x room h there = is_spelled version x (numbered-there version x h) (numbered-fits version n x room h there)
+numbered-coded : (version : Version) (n : ℕ) (x : Instruction) → n < 2 ^ 32 → IsNumbered version x → Below n x → HasSpelling version x
+numbered-coded version n x room h there = (numbered-there version x h, numbered-fits version n x room h there)
 
-code-coded : (version : Version) (n : ℕ) (code : List Instruction) → n < 2 ^ 32 → AllByRecursion (IsNumbered version) code → All (Below n) code → AllByRecursion (IsCoded (instructions version)) code
+code-coded : (version : Version) (n : ℕ) (code : List Instruction) → n < 2 ^ 32 → AllByRecursion (IsNumbered version) code → All (Below n) code → AllByRecursion (HasSpelling version) code
 code-coded version n [] room each there = tt
 code-coded version n (x ∷ code) room each there =
     (numbered-coded version n x room each.0 (All-head (Below n) x code there), code-coded version n code room each.1 (All-tail (Below n) x code there))
 
 code-fits : (version : Version) (code : List Instruction) → length code ≤ 4194305 → AllByRecursion (IsNumbered version) code → All (HasTargetIn code) code
-    → Fits (Code (instructions version)) code
+    → Fits (Code version) code
 code-fits version code few each there =
-    (omega (arith, few, code_length_most code, spelled-length version code), code-coded version (length code) code (omega (arith, few)) each there)
+    (omega (arith, few, code_length_most code, bytes-length code), code-coded version (length code) code (omega (arith, few)) each there)
 
 -- ---- handlers
 

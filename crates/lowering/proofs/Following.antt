@@ -10,7 +10,8 @@ use Rattle.modules.specs.declared.instruction.Instruction.TheVariants.{Jump, Jum
 use Rattle.modules.specs.declared.value.Cell.{Cell}
 use Rattle.modules.specs.declared.value.Cell.TheVariants as cell
 use Rattle.modules.specs.Contents.{ProcedureContents, ModuleContents}
-use Rattle.modules.specs.Machine.{State, Machine, Running, Ended, Stuck, MachineCode, Header, goes_to, act, acts, step, exec, branches, code_of, handlers_of, handler_for, header_of, slots_in, first_slots, first_state}
+use Rattle.modules.specs.Machine.{State, Machine, Running, Ended, Stuck, MachineCode, Header, goes_to, act, step, exec, branches, handler_for, header_of, first_slots, first_state}
+use Rattle.modules.specs.MachineParts.{acts, code_of, handlers_of, slots_in}
 use Rattle.modules.specs.Targets.{renamed_instruction}
 use Rattle.layout.specs.Runs.{graph_program}
 use Rattle.lowering.specs.Direct.{jump_of}

@@ -2,6 +2,7 @@
 use Rattle.std.proofs.Common.{◌≡◌, refl, sym, ◌∙◌, ℕ, zero, suc, ◌+◌, ◌<◌, ◌≤◌, Bool, true, false, not, List, [], ◌∷◌, ◌++◌, length, Option, Some, None, slice_get, arith}
 use Rattle.std.specs.Prelude.{filter}
 use Rattle.std.proofs.lemmas.Option.{none-some}
+use Rattle.resolved.specs.FaultParts.{place_of, may_stand, inner_faults}
 use Rattle.resolved.specs.declared.expression.Variable.{Variable}
 use Rattle.resolved.specs.declared.expression.Variable.TheVariants.{Global, Local}
 use Rattle.resolved.specs.declared.expression.Prefix.{Prefix}
@@ -13,10 +14,10 @@ use Rattle.resolved.specs.declared.expression.Connective.{Connective}
 use Rattle.resolved.specs.declared.expression.Connective.TheVariants.{And, Or}
 use Rattle.resolved.specs.declared.statement.Exit.{Exit}
 use Rattle.resolved.specs.declared.statement.Exit.TheVariants.{Normal, Return, Break, Continue, Throw}
-use Rattle.resolved.specs.Tree.{Expression, Integer, Logical, Read, Element, Unary, Binary, Short, Statement, Assign, Clear, Store, Receive, Send, Call, If, While, Leave, ReturnWith, Try, Nested, Block, Empty, Then, Handlers, NoMore, Catch, place_of}
+use Rattle.resolved.specs.Tree.{Expression, Integer, Logical, Read, Element, Unary, Binary, Short, Statement, Assign, Clear, Store, Receive, Send, Call, If, While, Leave, ReturnWith, Try, Nested, Block, Empty, Then, Handlers, NoMore, Catch}
 use Rattle.resolved.specs.Program.{Program, ResultEntry, procedure_at}
 use Rattle.resolved.specs.Exits.{same_exit, has_exit, statement_exits, block_exits}
-use Rattle.resolved.specs.ExitFaults.{fault_unless, may_stand, inner_faults, block_faults, handlers_faults}
+use Rattle.resolved.specs.ExitFaults.{fault_unless, block_faults, handlers_faults}
 use Rattle.resolved.specs.declared.fault.ExitRefusalKind.TheVariants.{OutsideLoop, Unreachable, NeverRaised}
 use Rattle.modules.specs.declared.instruction.Instruction.{Instruction}
 use Rattle.modules.specs.declared.instruction.Instruction.TheVariants as instruction
@@ -27,7 +28,7 @@ use Rattle.lowering.specs.Direct.{jump_of}
 use Rattle.lowering.proofs.Finals.{GoForward}
 use Rattle.lowering.proofs.Sizes.{value-sized, arguments-sized, branch-sized, jump-sized, block-sized, statement-sized}
 use Rattle.common.proofs.Cases.{append_empty}
-use Rattle.resolved.proofs.Exits.{no_fault-test}
+use Rattle.resolved.proofs.Exits.{no_fault-test, faults-in_parts}
 
 -- the unconditional jumps of code for a position go forward
 record Ahead (at : ℕ) (code : List Instruction) : Type 0 where
@@ -235,7 +236,7 @@ module _ (program : Program) where
         let first = fault_unless (may_stand in_loop statement) OutsideLoop (place_of statement) in
         let second = fault_unless reached Unreachable (place_of statement) in
         let goes = has_exit (statement_exits program statement) Normal in
-        let later = append_empty (first ++ second ++ inner_faults program in_loop statement) (block_faults program in_loop goes rest) faults in
+        let later = append_empty (first ++ second ++ inner_faults program in_loop statement) (block_faults program in_loop goes rest) (sym (faults-in_parts program in_loop reached rest statement) ∙ faults) in
         let here = append_empty (first ++ second) (inner_faults program in_loop statement) later.0 in
         let stands = no_fault-test (may_stand in_loop statement) OutsideLoop (place_of statement) (append_empty first second here.0).0 in
         ahead-both p m (statement_code program loop p statement) _ (statement-sized program loop p statement)

@@ -6,13 +6,14 @@ use Rattle.std.proofs.lemmas.Bool.{ltb-true, or_right, or_left, or_parts, and_fr
 use Rattle.std.proofs.lemmas.List.Elements.{All-nil, All-cons, All-append, All-map}
 use Rattle.std.proofs.lemmas.Option.{slice_get-get_or}
 use Rattle.common.specs.declared.base_type.BaseType.TheVariants.{Boolean}
+use Rattle.resolved.specs.FaultParts.{place_of, may_stand, inner_faults, may_exit}
 use Rattle.resolved.specs.declared.expression.Variable.{Variable}
 use Rattle.resolved.specs.declared.statement.Exit.{Exit}
 use Rattle.resolved.specs.declared.statement.Exit.TheVariants.{Normal, Return, Break, Continue, Throw}
-use Rattle.resolved.specs.Tree.{Expression, Statement, Assign, Clear, Store, Receive, Send, Call, If, While, Leave, ReturnWith, Try, Nested, Block, Empty, Then, Handlers, NoMore, Catch, place_of}
+use Rattle.resolved.specs.Tree.{Expression, Statement, Assign, Clear, Store, Receive, Send, Call, If, While, Leave, ReturnWith, Try, Nested, Block, Empty, Then, Handlers, NoMore, Catch}
 use Rattle.resolved.specs.Program.{Program, ProcedureEntry, ResultEntry, procedure_at}
 use Rattle.resolved.specs.Exits.{same_exit, has_exit, statement_exits, block_exits}
-use Rattle.resolved.specs.ExitFaults.{fault_unless, may_stand, inner_faults, block_faults, handlers_faults, may_exit, procedure_faults, exit_faults}
+use Rattle.resolved.specs.ExitFaults.{fault_unless, block_faults, handlers_faults, procedure_faults, exit_faults}
 use Rattle.resolved.specs.declared.fault.ExitRefusalKind.TheVariants.{OutsideLoop, Unreachable, NeverRaised, NoValueReturned, Undeclared}
 use Rattle.resolved.specs.WellFormed.{has_base, is_exception, statement_fits, block_fits, handlers_fit, procedure_fits}
 use Rattle.resolved.proofs.WellFormedParts.{program_parts, procedure_parts, passes_at}
@@ -30,7 +31,7 @@ use Rattle.lowering.proofs.Finals.{threaded-positioned}
 use Rattle.lowering.proofs.Targets.{Below, Stays, none-below, more-below, one-below, both-below, store-below, store_element-below, kept-below, value-below, arguments-below, branch-filled, branch-below}
 use Rattle.lowering.proofs.Unreached.{statement-none}
 use Rattle.common.proofs.Cases.{by_test, append_empty}
-use Rattle.resolved.proofs.Exits.{no_fault-test}
+use Rattle.resolved.proofs.Exits.{no_fault-test, faults-in_parts}
 
 -- ---- truth values
 
@@ -123,7 +124,7 @@ module _ (program : Program) (procedure : ProcedureEntry) (n : ℕ) where
   unreached loop in_loop reached p (Then statement rest) h faults =
       let first = fault_unless (may_stand in_loop statement) OutsideLoop (place_of statement) in
       let second = fault_unless reached Unreachable (place_of statement) in
-      let later = append_empty (first ++ second ++ inner_faults program in_loop statement) _ faults in
+      let later = append_empty (first ++ second ++ inner_faults program in_loop statement) _ (sym (faults-in_parts program in_loop reached rest statement) ∙ faults) in
       let here = append_empty (first ++ second) (inner_faults program in_loop statement) later.0 in
       let reaches : reached ≡ true = no_fault-test reached Unreachable (place_of statement) (append_empty first second here.0).1 in
       absurd (let no : true ≡ false = sym reaches ∙ h in cc)
@@ -207,7 +208,7 @@ module _ (program : Program) (procedure : ProcedureEntry) (n : ℕ) where
         let first = fault_unless (may_stand in_loop statement) OutsideLoop (place_of statement) in
         let second = fault_unless reached Unreachable (place_of statement) in
         let goes_on = has_exit (statement_exits program statement) Normal in
-        let later = append_empty (first ++ second ++ inner_faults program in_loop statement) (block_faults program in_loop goes_on rest) faults in
+        let later = append_empty (first ++ second ++ inner_faults program in_loop statement) (block_faults program in_loop goes_on rest) (sym (faults-in_parts program in_loop reached rest statement) ∙ faults) in
         let here = append_empty (first ++ second) (inner_faults program in_loop statement) later.0 in
         let stands = no_fault-test (may_stand in_loop statement) OutsideLoop (place_of statement) (append_empty first second here.0).0 in
         let parts = and_parts (statement_fits program procedure statement) (block_fits program procedure rest) fits in

@@ -10,6 +10,7 @@ use Rattle.resolved.specs.Meaning as meaning
 use Rattle.resolved.specs.WellFormed.{well_formed}
 use Rattle.modules.specs.Contents.{ModuleContents}
 use Rattle.modules.specs.Machine as machine
+use Rattle.modules.specs.MachineParts as pieces
 use Rattle.modules.specs.Machine.{Machine, Running}
 use Rattle.layout.specs.Runs.{graph_program, graph_after_steps}
 use Rattle.layout.specs.SameRuns.{SameRuns}
@@ -55,7 +56,7 @@ idle-by p m state sent later none e None jump =
 idle-by p m state sent later none e (Some target) jump =
     let on : machine.State = record state { frame = record state.frame { position = target } } in
     let goes : machine.step p (Running state) ≡ Running on =
-    ap (machine.acts p state) (jump-is (p.fetch state.frame.procedure state.frame.position) target jump) in
+    ap (pieces.acts p state) (jump-is (p.fetch state.frame.procedure state.frame.position) target jump) in
     let left : counts p m (machine.step p (Running state)) ≤ 0 = omega (arith, none) in
     let rest : Still p m (Running on) sent = later on sent (subst (λ x. counts p m x ≤ 0) goes left) e in
     record {

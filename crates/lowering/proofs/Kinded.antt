@@ -16,7 +16,8 @@ use Rattle.common.proofs.Cases.{none_there}
 use Rattle.resolved.specs.Program.{Program, ProcedureEntry, SlotEntry, ChannelEntry}
 use Rattle.resolved.specs.WellFormed.{VariableType, variable_type, scalar_by, array_by, has_length, channel_is, prefix_base, operand_base, result_base}
 use Rattle.modules.specs.Contents.{ProcedureContents, ModuleContents}
-use Rattle.modules.specs.Machine.{machine_code, header_of, kinds_of}
+use Rattle.modules.specs.Machine.{machine_code, header_of}
+use Rattle.modules.specs.MachineParts.{kinds_of}
 use Rattle.modules.specs.Values.{is_same_kind}
 use Rattle.modules.specs.declared.instruction.Instruction.{Instruction}
 use Rattle.modules.specs.declared.instruction.Instruction.TheVariants as instruction
@@ -29,8 +30,10 @@ use Rattle.verifier.specs.declared.fault.CodeRefusalKind.{CodeRefusalKind}
 use Rattle.verifier.specs.declared.fault.CodeRefusalKind.TheVariants.{OperandKind, SlotOrIndex}
 use Rattle.verifier.specs.Fixed.{instruction_refusal, unless}
 use Rattle.modules.specs.Targets.{goes_on, target_of}
-use Rattle.verifier.specs.Flow.{Effect, Leaves, Misses, exchanged, all_popped, and_then, pushed, effect}
-use Rattle.verifier.specs.Signatures.{called, exchange, is_array, is_input, is_output, is_scalar, slot_kind, value_kinds}
+use Rattle.verifier.specs.Flow.{Effect, Leaves, Misses, exchanged, all_popped, and_then, effect}
+use Rattle.verifier.specs.SignatureParts.{pushed}
+use Rattle.verifier.specs.Signatures.{called, exchange, is_array, is_input, is_output, is_scalar, slot_kind}
+use Rattle.verifier.specs.SignatureParts.{value_kinds}
 use Rattle.lowering.specs.Interface.{declared_slot, slot_contents, returned_kind}
 use Rattle.lowering.specs.Expressions.{load_of, store_of, load_element_of, store_element_of, prefix_instruction, operator_instruction}
 use Rattle.lowering.specs.Graphs.{procedure_contents}

@@ -29,7 +29,8 @@ use Rattle.modules.specs.declared.declaration.Slot.TheVariants as slot
 use Rattle.modules.specs.declared.instruction.Instruction.{Instruction}
 use Rattle.modules.specs.declared.instruction.Instruction.TheVariants as instruction
 use Rattle.modules.specs.Machine as machine
-use Rattle.modules.specs.Machine.{Machine, State, Header, clears, with_slot, with_element, goes_on, takes, receives, sends, throws, returns_nothing, leaves_without, returns_value, gives_back, leaves_value, raised, stuck, leaves}
+use Rattle.modules.specs.Machine.{Machine, State, Header, clears, with_element, goes_on, sends, leaves_without, gives_back, raised, stuck}
+use Rattle.modules.specs.MachineParts.{with_slot, takes, receives}
 use Rattle.common.specs.declared.exceptions.TheConstants.{BOUNDS, END}
 use Rattle.lowering.specs.Expressions.{store_of, store_element_of, value_size, value_code}
 use Rattle.lowering.specs.Code.{Loop, kept_code}

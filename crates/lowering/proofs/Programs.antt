@@ -1,6 +1,6 @@
 -- The graph of a program keeps its meaning.
-use Rattle.std.proofs.Common.{◌≡◌, ℕ, ◌+◌, ◌⊎◌, inl, inr, true, false, ◌&&◌, ◌||◌, ℤ, pos, negsuc, List, [], ◌∷◌, refl, sym, ap, ◌∙◌, subst, slice_get, eqb-true}
-use Rattle.std.specs.Prelude.{Option, Some, None, is_none, ◌==◌, replicate, take}
+use Rattle.std.proofs.Common.{◌≡◌, ℕ, ◌+◌, ◌⊎◌, inl, inr, true, false, ◌&&◌, ◌||◌, ℤ, pos, negsuc, List, [], ◌∷◌, refl, sym, ap, ◌∙◌, subst, zero, suc, slice_get, eqb-true}
+use Rattle.std.specs.Prelude.{Option, Some, None, is_none, ◌==◌, replicate, take, slice_index_or}
 use Rattle.std.specs.Option.{option_map}
 use Rattle.std.specs.List.{list_all}
 use Rattle.std.proofs.Math.Path.{fun_ext}
@@ -14,13 +14,13 @@ use Rattle.resolved.specs.declared.statement.Exit.TheVariants.{Normal, Return, B
 use Rattle.common.specs.declared.direction.Direction.{Direction}
 use Rattle.common.specs.declared.direction.Direction.TheVariants.{Input, Output}
 use Rattle.common.proofs.Cases.{none_there}
-use Rattle.resolved.specs.Program.{Program, ProcedureEntry, ResultEntry, GlobalEntry, ChannelEntry, procedure_at}
+use Rattle.resolved.specs.Program.{Program, ProcedureEntry, ResultEntry, GlobalEntry, ChannelEntry, channel_at, procedure_at}
 use Rattle.resolved.specs.SourceState as source
 use Rattle.resolved.specs.Value.{base_of}
 use Rattle.resolved.specs.Exits.{thrown_exits, declared_by}
 use Rattle.resolved.specs.ExitFaults.{exit_faults}
 use Rattle.resolved.specs.Meaning as meaning
-use Rattle.resolved.specs.Meaning.{Outcome, Ended, Stopped, Deep, OutOfFuel, leaving, entering, calls_with, block_meaning, state_after, first_cells_of_globals, channel_numbers, numbers_by}
+use Rattle.resolved.specs.Meaning.{Outcome, Ended, Stopped, Deep, OutOfFuel, leaving, entering, calls_with, block_meaning, state_after, first_cells_of_globals, numbers_by}
 use Rattle.resolved.specs.WellFormed.{well_formed, parameters_of, has_result, same_base, main_fits, first_fits, size_fits, label_fits, is_zero_value}
 use Rattle.resolved.specs.Kinds.{StateFits, OutcomeFits, ArgumentsFit}
 use Rattle.resolved.proofs.WellFormedParts.{ProcedureParts, procedure_at_is, program_parts, passes_at}
@@ -35,6 +35,7 @@ use Rattle.modules.specs.declared.value.Cell.{Cell}
 use Rattle.modules.specs.Contents.{ProcedureContents}
 use Rattle.modules.specs.Values.{zero_of}
 use Rattle.modules.specs.Machine as machine
+use Rattle.modules.specs.MachineParts as pieces
 use Rattle.modules.specs.Machine.{Machine, Running}
 use Rattle.layout.specs.Runs.{graph_program}
 use Rattle.lowering.specs.Interface.{global_contents, scalar_global}
@@ -71,7 +72,7 @@ sized_begins entry (Some count) e h empty =
     rw e (ap (replicate count) (sym (zero_value_cell entry.first entry.base h is_zero_first)) ∙ sym (cells_replicated count entry.first))
 
 global_begins : (program : Program) → well_formed program ≡ true → (k : ℕ) (o : Option GlobalEntry) → slice_get program.globals k ≡ o
-    → machine.cells_of_global (option_map global_contents o) ≡ cells_of (first_cells_of_globals o)
+    → pieces.cells_of_global (option_map global_contents o) ≡ cells_of (first_cells_of_globals o)
 global_begins program formed k None e = refl
 global_begins program formed k (Some entry) e =
     let all_fit : list_all (λ (entry : GlobalEntry). size_fits entry.size && label_fits program.hierarchy entry.label && first_fits entry) program.globals ≡ true =
@@ -81,9 +82,11 @@ global_begins program formed k (Some entry) e =
     let two = and_parts (same_base (base_of entry.first) entry.base) (is_none entry.size || is_zero_value entry.first) fit in
     sized_begins entry entry.size refl (same_base_is (base_of entry.first) entry.base two.0) two.1
 
-rest_begins : (o : Option ChannelEntry) (numbers : List ℤ) → numbers ≡ left_of o (channel_numbers o numbers) numbers
-rest_begins None numbers = refl
-rest_begins (Some entry) numbers = by entry.direction
+rest_begins : (channels : List ChannelEntry) (none : ChannelEntry) (c : ℕ) (numbers : List ℤ)
+    → numbers ≡ left_of (slice_get channels c) (numbers_by (slice_index_or channels c none).direction numbers) numbers
+rest_begins [] none c numbers = refl
+rest_begins (entry ∷ rest) none (suc c) numbers = rest_begins rest none c numbers
+rest_begins (entry ∷ rest) none zero numbers = by entry.direction
   where
     by : (d : Direction) → numbers ≡ left_by d (numbers_by d numbers) numbers
     by Input = refl
@@ -95,12 +98,12 @@ begins-so : (program : Program) (formed : well_formed program ≡ true) (world :
     (position (setting_of program formed world program.main main there []) 0 [] (entering main [] (meaning.first_state program world)))
 begins-so program formed world main there none =
     let graph = unthreaded_graph program in
-    let globals : (λ k. machine.cells_of_global (slice_get graph.globals k)) ≡ (λ n. cells_of (first_cells_of_globals (slice_get program.globals n))) =
-    fun_ext (λ n. ap machine.cells_of_global (slice_get-map global_contents program.globals n) ∙ global_begins program formed n (slice_get program.globals n) refl) in
-    let slots : machine.first_slots (machine.slots_in (slice_get graph.procedures program.main)) [] ≡ (λ n. cells_of (meaning.frame_of main.slots [] n)) =
-    ap (λ (o : Option ProcedureContents). machine.first_slots (machine.slots_in o) []) (procedure_there program program.main main there) ∙ slots-begin main [] none in
-    let rest : world ≡ (λ c. left_of (slice_get program.channels c) (channel_numbers (slice_get program.channels c) (world c)) (world c)) =
-    fun_ext (λ c. rest_begins (slice_get program.channels c) (world c)) in
+    let globals : (λ k. pieces.cells_of_global (slice_get graph.globals k)) ≡ (λ n. cells_of (first_cells_of_globals (slice_get program.globals n))) =
+    fun_ext (λ n. ap pieces.cells_of_global (slice_get-map global_contents program.globals n) ∙ global_begins program formed n (slice_get program.globals n) refl) in
+    let slots : machine.first_slots (pieces.slots_in (slice_get graph.procedures program.main)) [] ≡ (λ n. cells_of (meaning.frame_of main.slots [] n)) =
+    ap (λ (o : Option ProcedureContents). machine.first_slots (pieces.slots_in o) []) (procedure_there program program.main main there) ∙ slots-begin main [] none in
+    let rest : world ≡ (λ c. left_of (slice_get program.channels c) (numbers_by (channel_at program c).direction (world c)) (world c)) =
+    fun_ext (λ c. rest_begins program.channels _ c (world c)) in
     ap (λ (g : ℕ → List Cell). Running (record (machine.first_state graph world) { globals = g })) globals
     ∙ ap (λ (f : ℕ → List Cell). Running (record (machine.first_state graph world) {
       globals = λ n. cells_of (first_cells_of_globals (slice_get program.globals n));

@@ -7,7 +7,8 @@ use Rattle.modules.proofs.Alike.{act-alike}
 use Rattle.modules.specs.declared.instruction.Instruction.{Instruction}
 use Rattle.modules.specs.declared.declaration.Slot.{Slot}
 use Rattle.modules.specs.declared.value.Cell.{Cell}
-use Rattle.modules.specs.Machine.{Frame, Caller, State, Machine, Running, Ended, Stuck, sent_of, MachineCode, handled, unwound, raised, enters, leaves, leaves_value, act, acts, step, exec}
+use Rattle.modules.specs.Machine.{Frame, Caller, State, Machine, Running, Ended, Stuck, sent_of, MachineCode, handled, unwound, raised, enters, act, step, exec}
+use Rattle.modules.specs.MachineParts.{leaves, leaves_value, acts}
 use Rattle.common.specs.declared.limits.TheConstants.{MAX_FRAMES}
 
 -- what was sent before a state is a prefix of what a machine has sent

@@ -5,15 +5,16 @@ use Rattle.std.proofs.lemmas.List.Elements.{All-nil, All-cons, All-append}
 use Rattle.std.proofs.lemmas.Bool.{and_parts}
 use Rattle.common.specs.declared.base_type.BaseType.{BaseType}
 use Rattle.common.specs.declared.base_type.BaseType.TheVariants as base
+use Rattle.resolved.specs.FaultParts.{place_of, may_stand, inner_faults}
 use Rattle.resolved.specs.declared.expression.Variable.{Variable}
 use Rattle.resolved.specs.declared.expression.Variable.TheVariants.{Local}
 use Rattle.resolved.specs.declared.statement.Exit.{Exit}
 use Rattle.resolved.specs.declared.statement.Exit.TheVariants.{Normal, Return, Break, Continue, Throw}
 use Rattle.common.specs.declared.direction.Direction.TheVariants.{Input, Output}
-use Rattle.resolved.specs.Tree.{Expression, Statement, Assign, Clear, Store, Receive, Send, Call, If, While, Leave, ReturnWith, Try, Nested, Block, Empty, Then, Handlers, NoMore, Catch, place_of}
+use Rattle.resolved.specs.Tree.{Expression, Statement, Assign, Clear, Store, Receive, Send, Call, If, While, Leave, ReturnWith, Try, Nested, Block, Empty, Then, Handlers, NoMore, Catch}
 use Rattle.resolved.specs.Program.{Program, ProcedureEntry, ResultEntry, SlotEntry, procedure_at}
 use Rattle.resolved.specs.Exits.{same_exit, has_exit, statement_exits, block_exits}
-use Rattle.resolved.specs.ExitFaults.{fault_unless, may_stand, inner_faults, block_faults, handlers_faults}
+use Rattle.resolved.specs.ExitFaults.{fault_unless, block_faults, handlers_faults}
 use Rattle.resolved.specs.declared.fault.ExitRefusalKind.TheVariants.{OutsideLoop, Unreachable, NeverRaised}
 use Rattle.resolved.specs.WellFormed.{VariableType, variable_type, has_base, same_base, scalar_by, array_by, target_by, has_result, channel_is, parameters_of, arguments_match, call_matches, is_array, is_exception, may_leave_by, statement_fits, block_fits, handlers_fit}
 use Rattle.resolved.proofs.WellFormedParts.{procedure_at_is}
@@ -27,7 +28,7 @@ use Rattle.modules.specs.declared.instruction.Instruction.{Instruction}
 use Rattle.modules.specs.declared.instruction.Instruction.TheVariants as instruction
 use Rattle.common.specs.declared.base_type.BaseType.TheVariants.{Int}
 use Rattle.verifier.specs.Signatures.{is_input, is_output}
-use Rattle.verifier.specs.Flow.{pushed}
+use Rattle.verifier.specs.SignatureParts.{pushed}
 use Rattle.lowering.specs.Interface.{declared_slot, returned_kind}
 use Rattle.lowering.specs.Expressions.{store_of, store_element_of, value_size, value_code, arguments_size, arguments_code, branch_size, branch_code}
 use Rattle.lowering.specs.Code.{Loop, jump_size, jump_code, jumps_over, jumps_after, kept_code, result_code, leave_code, return_code, entry_of, statement_size, block_size, handlers_size, statement_code, block_code, handlers_code, statement_table, block_table, handlers_table}
@@ -37,7 +38,7 @@ use Rattle.lowering.proofs.Flowing.{Does, Flows, Here, kinds_at, here-front, her
 use Rattle.lowering.proofs.Kinded.{scalar-type, array-type, input-is, output-is, Stated, store-does, store_element-does, clear-does, pop-does, receive-does, send-does, call-does, return-does, return_value-does, throw-does, parameters-are}
 use Rattle.lowering.proofs.Pushing.{value-flows, arguments-flow, branch-flows}
 use Rattle.common.proofs.Cases.{append_empty, none_there}
-use Rattle.resolved.proofs.Exits.{no_fault-test}
+use Rattle.resolved.proofs.Exits.{no_fault-test, faults-in_parts}
 
 -- an array that may be cleared
 record Cleared (o : Option VariableType) : Type 0 where
@@ -345,7 +346,7 @@ module _ (program : Program) (procedure : ProcedureEntry) (m : ModuleContents) (
         let first = fault_unless (may_stand in_loop statement) OutsideLoop (place_of statement) in
         let second = fault_unless reached Unreachable (place_of statement) in
         let goes_on = has_exit (statement_exits program statement) Normal in
-        let later = append_empty (first ++ second ++ inner_faults program in_loop statement) (block_faults program in_loop goes_on rest) faults in
+        let later = append_empty (first ++ second ++ inner_faults program in_loop statement) (block_faults program in_loop goes_on rest) (sym (faults-in_parts program in_loop reached rest statement) ∙ faults) in
         let here = append_empty (first ++ second) (inner_faults program in_loop statement) later.0 in
         let stands = no_fault-test (may_stand in_loop statement) OutsideLoop (place_of statement) (append_empty first second here.0).0 in
         let parts = and_parts (statement_fits program procedure statement) (block_fits program procedure rest) fits in

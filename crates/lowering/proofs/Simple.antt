@@ -26,7 +26,8 @@ use Rattle.modules.specs.declared.declaration.Slot.TheVariants as slot
 use Rattle.modules.specs.declared.instruction.Instruction.{Instruction}
 use Rattle.modules.specs.declared.instruction.Instruction.TheVariants as instruction
 use Rattle.modules.specs.Values.{zero_of, has_kind}
-use Rattle.modules.specs.Machine.{State, returns_nothing, leaves_without, returns_value, gives_back, leaves_value, raised, stuck}
+use Rattle.modules.specs.Machine.{State, leaves_without, gives_back, raised, stuck}
+use Rattle.modules.specs.MachineParts.{returns_nothing, returns_value, leaves_value}
 use Rattle.lowering.specs.Interface.{returned_kind}
 use Rattle.lowering.specs.Expressions.{store_of}
 use Rattle.lowering.specs.Code.{Loop, kept_code, leave_code}

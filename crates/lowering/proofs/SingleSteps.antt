@@ -13,7 +13,8 @@ use Rattle.modules.specs.declared.declaration.Slot.{Slot}
 use Rattle.modules.specs.declared.declaration.Slot.TheVariants as slot
 use Rattle.modules.specs.declared.instruction.Instruction.{Instruction}
 use Rattle.modules.specs.Values.{has_kind}
-use Rattle.modules.specs.Machine.{Machine, State, act, acts, step, goes_on, with_slot, with_global, loads, stores, with_element, loads_element, stores_element, changes}
+use Rattle.modules.specs.Machine.{Machine, State, act, step, goes_on, loads, stores, with_element, loads_element, stores_element}
+use Rattle.modules.specs.MachineParts.{acts, with_slot, with_global, changes}
 use Rattle.common.specs.declared.exceptions.TheConstants.{BOUNDS}
 use Rattle.lowering.specs.Expressions.{load_of, store_of, load_element_of, store_element_of}
 use Rattle.lowering.proofs.CodePieces.{Stands, stands-here}

@@ -1,8 +1,8 @@
-ghost use Rattle.machine.specs.RefusalKinds.{new_refusal_number, new_refusal_words};
-ghost use Rattle.std.specs.Prelude.{◌≡◌, Some};
+ghost use Rattle.machine.specs.RefusalKinds.{new_message};
+ghost use Rattle.std.specs.Prelude.{Some};
 
 use channels::WorldRefusalKind;
-use common::OrNoMemory;
+use common::{Message, OrNoMemory, Reported};
 use std::error::Error;
 use std::fmt;
 
@@ -16,28 +16,18 @@ pub enum NewRefusal {
 /// Why a machine was not made.
 pub type NewFault = OrNoMemory<NewRefusal>;
 
-impl NewRefusal {
-    /// The number that the refusal is reported by.
-    pub fn number(self) -> u32
-        ensures { result ≡ new_refusal_number self }
-    {
-        match self {
-            NewRefusal::UnknownChannel => WorldRefusalKind::UnknownChannel.number(),
-        }
-    }
+impl Reported for NewRefusal {
+    ghost contents = { new_message };
 
-    /// The words that the refusal is reported by.
-    pub fn words(self) -> &'static str
-        ensures { result.now ≡ new_refusal_words self }
-    {
+    fn message(&self) -> Message {
         match self {
-            NewRefusal::UnknownChannel => WorldRefusalKind::UnknownChannel.words(),
+            NewRefusal::UnknownChannel => WorldRefusalKind::UnknownChannel.message(),
         }
     }
 }
 
 impl fmt::Display for NewRefusal {
-    ghost output = { λ refusal. Some (new_refusal_words refusal) };
+    ghost output = { λ refusal. Some (new_message refusal).words };
 
     fn fmt<W: fmt::Write>(&self, f: &mut fmt::Formatter<W>) -> fmt::Result {
         write!(f, "{}", self.words())

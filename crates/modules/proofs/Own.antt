@@ -16,7 +16,8 @@ use Rattle.labels.proofs.Carried.{own-label}
 use Rattle.modules.specs.Contents.{ChannelContents, ModuleContents}
 use Rattle.modules.specs.ByteFormat.{Fits, FitEach}
 use Rattle.modules.specs.Format.{module_file, contents, declared, channels, channel_after, hierarchy, principals, pair_after, number_below, name_after, label, policy_after, reader_after, is_among}
-use Rattle.modules.specs.Isolated.{IsIsolated, StaysIsolated, channel_label, channel_label_under, label_in, module_view}
+use Rattle.modules.specs.Isolated.{IsIsolated, StaysIsolated, channel_label, channel_label_under, module_view}
+use Rattle.modules.specs.MachineParts.{label_in}
 
 -- ---- along a list, each element after those before it
 

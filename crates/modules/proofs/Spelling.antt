@@ -1,12 +1,12 @@
 -- Each instruction that a version has and whose operand fits has a spelling there, which is as long as the instruction is wide.
-use Rattle.std.proofs.Common.{◌≡◌, ℕ, ◌^◌, ◌<◌, ℤ, Bool, true, false, cond, List, [], ◌∷◌, length, None, Some, refl, sym, ap, ◌∙◌, arith, length-append, lit<}
+use Rattle.std.proofs.Common.{◌≡◌, ◌⊎◌, inl, inr, ℕ, ◌^◌, ◌<◌, ℤ, Bool, true, false, cond, eqb, List, [], ◌∷◌, ◌++◌, length, Option, None, Some, refl, sym, ap, subst, ◌∙◌, arith, length-append, lit<}
 use Rattle.std.specs.Prelude.{FitsSigned, IsTrue}
 use Rattle.std.specs.Int.{w32, cast_signed, cast_unsigned, to_be_bytes, from_be_bytes}
-use Rattle.std.specs.List.{AllByRecursion}
+use Rattle.std.specs.List.{find, AllByRecursion}
 use Rattle.std.proofs.lemmas.List.Elements.{All-nil, All-cons}
 use Rattle.std.proofs.lemmas.Int.{to_z-of_z}
 use Rattle.std.proofs.lemmas.Nat.{from_be_bytes-to_be_bytes_4}
-use Rattle.std.proofs.Math.Facts.{Fits-of_z, Fits-lt-pow}
+use Rattle.std.proofs.Math.Facts.{Fits-of_z, Fits-of_lt, Fits-lt-pow, sfits_to_z}
 use Rattle.modules.specs.declared.instruction.Arithmetic.TheVariants.{Add}
 use Rattle.modules.specs.declared.instruction.Comparison.TheVariants.{Less}
 use Rattle.modules.specs.declared.instruction.MachineOperator.TheVariants.{Compute, Compare}
@@ -15,7 +15,7 @@ use Rattle.modules.specs.declared.instruction.Instruction.{Instruction}
 use Rattle.modules.specs.declared.instruction.Instruction.TheVariants.{Push, PushBoolean, Load, Store, LoadElement, StoreElement, Operate}
 use Rattle.modules.specs.Code.{width_of, code_length}
 use Rattle.modules.specs.ByteFormat.{IsCoded, spelled_instruction, spelled_code}
-use Rattle.modules.specs.Opcodes.{HasCodeOf, OperandFits, exists_in, has_instruction, instruction_of, instructions, numbered, opcode_of, operand_bytes, operand_width, plain, entry_of, width_after, width_in, with_opcode}
+use Rattle.modules.specs.Opcodes.{HasCodeOf, HasSpelling, OperandFits, code_bytes, exists_in, has_instruction, instruction_bytes, instruction_of, instructions, numbered, opcode_of, operand_bytes, operand_width, plain, entry_of, width_after, width_in, with_opcode}
 use Rattle.modules.specs.declared.opcode.Operand.{Operand}
 use Rattle.modules.specs.declared.opcode.Operand.TheVariants.{Absent, Boolean, Int, Number}
 use Rattle.modules.specs.declared.version.Version.{Version}
@@ -33,11 +33,16 @@ pub spelled-width : (version : Version) (x : Instruction) → length (spelled_in
 unfolding instructions
 spelled-width version x = omega (arith, operand-width (entry_of x).operand)
 
-pub spelled-length : (version : Version) (code : List Instruction) → length (spelled_code (instructions version) code) ≡ code_length code
-spelled-length version [] = refl
-spelled-length version (x ∷ xs) =
-    length-append (spelled_instruction (instructions version) x) (spelled_code (instructions version) xs)
-    ∙ omega (arith, spelled-width version x, spelled-length version xs)
+pub bytes-length : (code : List Instruction) → length (code_bytes code) ≡ code_length code
+bytes-length [] = refl
+bytes-length (x ∷ xs) =
+    length-append (instruction_bytes x) (code_bytes xs) ∙ omega (arith, operand-width (entry_of x).operand, bytes-length xs)
+
+-- as readers of a version tell it, code has the same bytes
+pub code-bytes : (version : Version) (code : List Instruction) → spelled_code (instructions version) code ≡ code_bytes code
+unfolding instructions
+code-bytes version [] = refl
+code-bytes version (x ∷ xs) = ap (λ (bytes : List ℕ). instruction_bytes x ++ bytes) (code-bytes version xs)
 
 -- ---- spellings
 
@@ -122,6 +127,50 @@ unfolding instructions
 has_spelled version x coded =
     some_if (has_instruction version x) (operand_width (entry_of x).operand) _ (sym (known version x) ∙ coded.width)
 
-pub all_have : (version : Version) (code : List Instruction) → AllByRecursion (IsCoded (instructions version)) code → HasCodeOf version code
-all_have version [] coded = All-nil _
-all_have version (x ∷ code) coded = All-cons (λ i. IsTrue (has_instruction version i)) x code (has_spelled version x coded.0) (all_have version code coded.1)
+-- ---- operands that fit
+
+chosen : {X : Type 0} (b : Bool) (y x : X) (other : Option X) → cond b (Some y) other ≡ Some x → ((b ≡ true) × (y ≡ x)) ⊎ (other ≡ Some x)
+chosen true y x other e = inl (refl, cc)
+chosen false y x other e = inr e
+
+-- what was found passes the test, and has what all have
+pub found-has : {X : Type 0} (p : X → Bool) (P : X → Type 0) (xs : List X) (x : X) → AllByRecursion P xs → find p xs ≡ Some x → (p x ≡ true) × P x
+found-has p P [] x all e = absurd cc
+found-has {X} p P (y ∷ ys) x all e =
+    elim (chosen (p y) y x (find p ys) e) [
+      | inl here ↦ subst (λ (z : X). (p z ≡ true) × P z) here.1 (here.0, all.0)
+      | inr later ↦ found-has p P ys x all.1 later
+    ]
+
+-- of the instructions with a number that fits, the one of an opcode has an operand that fits
+numbered_fits : (byte number : ℕ) (x : Instruction) → number < 2 ^ 32 → with_opcode byte (numbered number) ≡ Some x → OperandFits (entry_of x).operand
+numbered_fits byte number x small e =
+    (found-has (λ y. eqb (opcode_of y) byte) (λ y. OperandFits (entry_of y).operand) (numbered number) x
+    (sfits_to_z (Fits-of_lt small), (small, (small, (small, (small, (small, (small, (small, (small, (small, (small, (small, (small, (small, (small, (small, tt)))))))))))))))) e).1
+
+operand_fits : (x : Instruction) (operand : Operand) → (entry_of x).operand ≡ operand → instruction_of (opcode_of x) (operand_bytes operand) ≡ Some x → OperandFits operand
+operand_fits x Absent same e = tt
+operand_fits x (Int n) same e =
+    subst OperandFits same (numbered_fits (opcode_of x) (from_be_bytes w32 (to_be_bytes w32 (cast_unsigned w32 n))) x (omega arith) e)
+operand_fits x (Boolean b) same e = tt
+operand_fits x (Number n) same e =
+    subst OperandFits same (numbered_fits (opcode_of x) (from_be_bytes w32 (to_be_bytes w32 n)) x (omega arith) e)
+
+-- what a version spells is what its opcode and its operand spell again
+pub fits_spelled : (version : Version) (x : Instruction) → IsCoded (instructions version) x → HasSpelling version x
+unfolding instructions
+fits_spelled version x coded = (has_spelled version x coded, operand_fits x (entry_of x).operand refl coded.itself)
+
+-- ---- code
+
+pub all_coded : (version : Version) (code : List Instruction) → AllByRecursion (HasSpelling version) code → AllByRecursion (IsCoded (instructions version)) code
+all_coded version [] h = tt
+all_coded version (x ∷ code) h = (is_spelled version x h.0.0 h.0.1, all_coded version code h.1)
+
+pub all_spelled : (version : Version) (code : List Instruction) → AllByRecursion (IsCoded (instructions version)) code → AllByRecursion (HasSpelling version) code
+all_spelled version [] coded = tt
+all_spelled version (x ∷ code) coded = (fits_spelled version x coded.0, all_spelled version code coded.1)
+
+pub all_have : (version : Version) (code : List Instruction) → AllByRecursion (HasSpelling version) code → HasCodeOf version code
+all_have version [] h = All-nil _
+all_have version (x ∷ code) h = All-cons (λ i. IsTrue (has_instruction version i)) x code h.0.0 (all_have version code h.1)

@@ -4,17 +4,12 @@
 use Rattle.std.specs.Prelude.{◌≡◌, ℕ, zero, suc, ◌-◌, ◌^◌, ◌<◌, Bool, true, List, [], ◌∷◌, ◌++◌, length, take, drop, Option, Some, None, Result, Ok, Err, nat_lt, ◌==◌, if◌then◌else◌}
 use Rattle.std.specs.Int.{w32, to_be_bytes, from_be_bytes}
 use Rattle.std.specs.List.{flat_map, AllByRecursion}
+use Rattle.modules.specs.Opcodes.{Coding, instructions, code_bytes, HasSpelling}
+use Rattle.modules.specs.declared.version.Version.{Version}
+use Rattle.modules.specs.declared.instruction.Instruction.{Instruction}
 use Rattle.modules.specs.declared.fault.FormatRefusalKind.{FormatRefusalKind}
 use Rattle.modules.specs.declared.fault.ReadRefusal.{ReadRefusal}
 use Rattle.modules.specs.declared.fault.FormatRefusalKind.TheVariants.{Short, BadValue, Trailing}
-
--- how instructions are spelled: an opcode, which says how many bytes of operand follow (none where there is no such opcode),
--- and the instruction that an opcode and an operand spell, if any
-pub record Coding (A : Type 0) : Type 0 where
-  pub opcode : A → ℕ
-  pub operand : A → List ℕ
-  pub operand_width : ℕ → Option ℕ
-  pub instruction : ℕ → List ℕ → Option A
 
 -- a format of values of a type
 pub data ByteFormat : Type 0 → Type 1 where
@@ -34,8 +29,8 @@ pub data ByteFormat : Type 0 → Type 1 where
   Then : {A B : Type 0} → ByteFormat A → (A → ByteFormat B) → ByteFormat (A × B)
   -- a count that passes a test, and then that many values, each of a format that may depend on those before it
   Counted : {A : Type 0} → (ℕ → Bool) → (List A → ByteFormat A) → ByteFormat (List A)
-  -- a length, and instructions of that many bytes
-  Code : {A : Type 0} → Coding A → ByteFormat (List A)
+  -- a length, and instructions of a version, of that many bytes
+  Code : Version → ByteFormat (List Instruction)
   -- a value that is made of fields, and taken apart
   Named : {A B : Type 0} → (A → B) → (B → A) → ByteFormat A → ByteFormat B
 
@@ -45,13 +40,6 @@ pub data ByteFormat : Type 0 → Type 1 where
 abbrev pub spelled_each : {A : Type 0} → (List A → A → List ℕ) → List A → List A → List ℕ
 spelled_each one before [] = []
 spelled_each one before (x ∷ xs) = one before x ++ spelled_each one (before ++ x ∷ []) xs
-
--- an opcode and its operand
-abbrev pub spelled_instruction : {A : Type 0} → Coding A → A → List ℕ
-spelled_instruction coding x = coding.opcode x ∷ coding.operand x
-
-abbrev pub spelled_code : {A : Type 0} → Coding A → List A → List ℕ
-spelled_code coding xs = flat_map (spelled_instruction coding) xs
 
 -- the bytes that spell a value that fits the format
 abbrev pub spelled : {A : Type 0} → ByteFormat A → A → List ℕ
@@ -63,7 +51,7 @@ spelled (Marked kind n form) x = to_be_bytes w32 n ++ spelled form x
 spelled (Checked kind test form) x = spelled form x
 spelled (Then first second) x = spelled first x.0 ++ spelled (second x.0) x.1
 spelled (Counted test one) xs = to_be_bytes w32 (length xs) ++ spelled_each (λ before x. spelled (one before) x) [] xs
-spelled (Code coding) xs = to_be_bytes w32 (length (spelled_code coding xs)) ++ spelled_code coding xs
+spelled (Code version) code = to_be_bytes w32 (length (code_bytes code)) ++ code_bytes code
 spelled (Named make fields form) x = spelled form (fields x)
 
 -- ---- which values have a spelling
@@ -71,12 +59,6 @@ spelled (Named make fields form) x = spelled form (fields x)
 abbrev pub FitEach : {A : Type 0} → (List A → A → Type 0) → List A → List A → Type 0
 FitEach one before [] = Unit {0}
 FitEach one before (x ∷ xs) = one before x × FitEach one (before ++ x ∷ []) xs
-
--- an instruction is the one that its opcode and its operand spell
-pub record IsCoded {A : Type 0} (coding : Coding A) (x : A) : Type 0 where
-  pub byte : coding.opcode x < 256
-  pub width : coding.operand_width (coding.opcode x) ≡ Some (length (coding.operand x))
-  pub itself : coding.instruction (coding.opcode x) (coding.operand x) ≡ Some x
 
 -- the values of the format
 abbrev pub Fits : {A : Type 0} → ByteFormat A → A → Type 0
@@ -88,7 +70,7 @@ Fits (Marked kind n form) x = Fits form x
 Fits (Checked kind test form) x = Fits form x × (test x ≡ true)
 Fits (Then first second) x = Fits first x.0 × Fits (second x.0) x.1
 Fits (Counted test one) xs = (length xs < 2 ^ 32) × (test (length xs) ≡ true) × FitEach (λ before x. Fits (one before) x) [] xs
-Fits (Code coding) xs = (length (spelled_code coding xs) < 2 ^ 32) × AllByRecursion (IsCoded coding) xs
+Fits (Code version) code = (length (code_bytes code) < 2 ^ 32) × AllByRecursion (HasSpelling version) code
 Fits (Named make fields form) x = Fits form (fields x) × (make (fields x) ≡ x)
 
 -- the bytes are the spelling of the value, each of them
@@ -124,6 +106,19 @@ number_at bytes = if nat_lt (length bytes) 4 then Err short else Ok (from_be_byt
 -- this many bytes
 abbrev pub bytes_at : ℕ → List ℕ → Read (List ℕ)
 bytes_at n bytes = if nat_lt (length bytes) n then Err short else Ok (take n bytes, drop n bytes)
+
+-- an opcode and its operand
+abbrev pub spelled_instruction : {A : Type 0} → Coding A → A → List ℕ
+spelled_instruction coding x = coding.opcode x ∷ coding.operand x
+
+abbrev pub spelled_code : {A : Type 0} → Coding A → List A → List ℕ
+spelled_code coding xs = flat_map (spelled_instruction coding) xs
+
+-- an instruction is the one that its opcode and its operand spell
+pub record IsCoded {A : Type 0} (coding : Coding A) (x : A) : Type 0 where
+  pub byte : coding.opcode x < 256
+  pub width : coding.operand_width (coding.opcode x) ≡ Some (length (coding.operand x))
+  pub itself : coding.instruction (coding.opcode x) (coding.operand x) ≡ Some x
 
 -- this many values, after those before
 abbrev pub each_at : {A : Type 0} → (List A → List ℕ → Read A) → ℕ → List A → List ℕ → Read (List A)
@@ -179,9 +174,9 @@ read (Then first second) bytes = do
 read (Counted test one) bytes = do
   count ← number_at bytes
   if test count.0 then each_at (λ before rest. read (one before) rest) count.0 [] count.1 else Err (stop_at BadValue bytes)
-read (Code coding) bytes = do
+read (Code version) bytes = do
   size ← number_at bytes
-  code_at coding size.0 size.0 [] size.1
+  code_at (instructions version) size.0 size.0 [] size.1
 read (Named make fields form) bytes = do
   found ← read form bytes
   Ok (make found.0, found.1)

@@ -5,6 +5,7 @@ use Rattle.common.specs.Exceptions.{built_in_names}
 use Rattle.common.specs.declared.limits.TheConstants.{MAX_CELLS, MAX_ELEMENTS, MAX_PRINCIPALS}
 use Rattle.std.specs.Int.{w32, cast_signed, cast_unsigned}
 use Rattle.std.specs.List.{list_any}
+use Rattle.std.specs.Option.{option_map_or}
 use Rattle.std.specs.Ordering.{nat_cmp, on, then_cmp}
 use Rattle.std.specs.Str.{is_utf8}
 use Rattle.std.specs.declared.cmp.Ordering.{Ordering}
@@ -28,7 +29,6 @@ use Rattle.common.specs.declared.direction.Direction.{Direction}
 use Rattle.common.specs.declared.direction.Direction.TheVariants.{Input, Output}
 use Rattle.modules.specs.Contents.{ChannelContents, ProcedureContents, ModuleContents}
 use Rattle.modules.specs.ByteFormat.{ByteFormat, Byte, Number, Text, Nothing, Marked, Checked, Then, Counted, Code, Named}
-use Rattle.modules.specs.Opcodes.{instructions}
 
 -- ---- limits and tests
 
@@ -41,12 +41,8 @@ is_less Less = true
 is_less _ = false
 
 -- an element is above the last of those before it, if there are any
-abbrev pub is_above_last : {A : Type 0} → (A → A → Ordering) → Option A → A → Bool
-is_above_last cmp None x = true
-is_above_last cmp (Some last) x = is_less (cmp last x)
-
 abbrev pub is_above : {A : Type 0} → (A → A → Ordering) → List A → A → Bool
-is_above cmp before x = is_above_last cmp (slice_get before (length before - 1)) x
+is_above cmp before x = option_map_or (λ last. is_less (cmp last x)) (slice_get before (length before - 1)) true
 
 -- a text is a name, and neither taken nor one of those before it
 abbrev pub is_among : List (List ℕ) → List ℕ → Bool
@@ -240,7 +236,7 @@ procedure version =
     Named
     (λ fields. record { returned = fields.0; parameters = fields.1.0; slots = fields.1.1.0; code = fields.1.1.1.0; handlers = fields.1.1.1.1 })
     (λ p. (p.returned, (p.parameters, (p.slots, (p.code, p.handlers)))))
-    (Then returned (λ _. Then Number (λ parameters. Then (slots parameters) (λ _. Then (Code (instructions version)) (λ _. handlers)))))
+    (Then returned (λ _. Then Number (λ parameters. Then (slots parameters) (λ _. Then (Code version) (λ _. handlers)))))
 
 unfoldable pub procedures : Version → ByteFormat (List ProcedureContents)
 procedures version = Counted any (λ before. procedure version)

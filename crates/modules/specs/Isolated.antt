@@ -1,7 +1,8 @@
 -- Isolation of modules under a hierarchy, the module's own or one that contains it: what a principal can learn of the inputs that
 -- it may not read from what it sees of the outputs.
 -- Source: our own, for runs that may be stopped anywhere; noninterference after Volpano, Smith and Irvine 1996.
-use Rattle.std.specs.Prelude.{◌≡◌, ℕ, List, [], slice_get, Option, Some, None, IsTrue, ℤ}
+use Rattle.std.specs.Prelude.{◌≡◌, ℕ, List, [], slice_get, Some, IsTrue, ℤ}
+use Rattle.std.specs.Option.{option_map_or}
 use Rattle.principals.specs.ActsFor.{PrincipalHierarchy, IsHierarchy, ContainsHierarchy}
 use Rattle.labels.specs.Carried.{label_under}
 use Rattle.labels.specs.Label.{Label, may_read}
@@ -12,12 +13,8 @@ use Rattle.modules.specs.Machine.{sent_after}
 use Rattle.common.specs.declared.direction.Direction.TheVariants.{Input}
 
 -- the label of a channel of a module, by its number; the least label for a number that is not there
-abbrev pub label_in : Option ChannelContents → Label
-label_in None = []
-label_in (Some channel) = channel.label
-
 abbrev pub channel_label : ModuleContents → ℕ → Label
-channel_label m k = label_in (slice_get m.channels k)
+channel_label m k = option_map_or (λ channel. channel.label) (slice_get m.channels k) []
 
 -- the label of a channel under a hierarchy, to which the principals of the module's own are carried over by name
 abbrev pub channel_label_under : PrincipalHierarchy → ModuleContents → ℕ → Label

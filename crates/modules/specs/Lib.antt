@@ -12,5 +12,6 @@ pub mod Opcodes
 pub mod Code
 pub mod Format
 pub mod Machine
+pub mod MachineParts
 pub mod Isolated
 pub mod Targets

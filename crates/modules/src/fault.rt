@@ -1,7 +1,8 @@
 //! What is wrong with bytes that spell no module.
 
-ghost use Rattle.modules.specs.RefusalKinds.{format_refusal_number, format_refusal_words};
-ghost use Rattle.std.specs.Prelude.{◌≡◌};
+ghost use Rattle.modules.specs.RefusalKinds.{format_message};
+
+use common::{Message, Reported};
 
 /// What is wrong with bytes that spell no module.
 #[derive(Clone, Copy, Debug, PartialEq, Eq)]
@@ -20,32 +21,17 @@ pub enum FormatRefusalKind {
     Trailing,
 }
 
-impl FormatRefusalKind {
-    /// The number that the refusal is reported by, 801 to 806.
-    pub fn number(self) -> u32
-        ensures { result ≡ format_refusal_number self }
-    {
-        match self {
-            FormatRefusalKind::Magic => 801,
-            FormatRefusalKind::Version => 802,
-            FormatRefusalKind::Short => 803,
-            FormatRefusalKind::BadValue => 804,
-            FormatRefusalKind::NotCanonical => 805,
-            FormatRefusalKind::Trailing => 806,
-        }
-    }
+impl Reported for FormatRefusalKind {
+    ghost contents = { format_message };
 
-    /// The words that the refusal is reported by.
-    pub fn words(self) -> &'static str
-        ensures { result.now ≡ format_refusal_words self }
-    {
+    fn message(&self) -> Message {
         match self {
-            FormatRefusalKind::Magic => "magic",
-            FormatRefusalKind::Version => "version",
-            FormatRefusalKind::Short => "short",
-            FormatRefusalKind::BadValue => "bad value",
-            FormatRefusalKind::NotCanonical => "not canonical",
-            FormatRefusalKind::Trailing => "trailing bytes",
+            FormatRefusalKind::Magic => Message::new(801, "magic"),
+            FormatRefusalKind::Version => Message::new(802, "version"),
+            FormatRefusalKind::Short => Message::new(803, "short"),
+            FormatRefusalKind::BadValue => Message::new(804, "bad value"),
+            FormatRefusalKind::NotCanonical => Message::new(805, "not canonical"),
+            FormatRefusalKind::Trailing => Message::new(806, "trailing bytes"),
         }
     }
 }

@@ -7,22 +7,20 @@ ghost use Rattle.modules.specs.ByteFormat.{Fits, IsCoded};
 ghost use Rattle.modules.specs.Format.{module_file};
 ghost use Rattle.modules.specs.Isolated.{IsIsolated, StaysIsolated, channel_label, channel_label_under, module_view};
 ghost use Rattle.modules.specs.Machine.{after_steps};
-ghost use Rattle.modules.specs.Opcodes.{has_instruction, HasCodeOf, instructions, OperandFits, entry_of};
+ghost use Rattle.modules.specs.Opcodes.{HasCodeOf, HasSpelling, instructions};
 ghost use Rattle.modules.specs.declared.instruction.Instruction.{Instruction};
 ghost use Rattle.modules.specs.declared.version.Version.TheVariants.{Two};
 ghost use Rattle.modules.specs.declared.version.Version.{Version};
 ghost use Rattle.principals.specs.ActsFor.{IsHierarchy};
-ghost use Rattle.std.specs.Prelude.{All, IsTrue, List, ℕ, ℤ, ◌≡◌};
+ghost use Rattle.std.specs.Prelude.{All, List, ℕ, ℤ, ◌≡◌};
 
 /// Each instruction that a version has and whose operand fits has a spelling there: its opcode is a byte, which is followed by as
-/// many bytes as its operand has, and the two spell that instruction again. An instruction that a version does not have has none.
+/// many bytes as its operand has, and the two spell that instruction again. No other instruction is spelled so.
 pub fn instructions_are_spelled()
     ensures spelled { (version : Version) (instruction : Instruction)
-        → IsTrue (has_instruction version instruction) → OperandFits (entry_of instruction).operand
-        → IsCoded (instructions version) instruction }
+        → HasSpelling version instruction → IsCoded (instructions version) instruction }
     ensures none { (version : Version) (instruction : Instruction)
-        → IsCoded (instructions version) instruction
-        → IsTrue (has_instruction version instruction) }
+        → IsCoded (instructions version) instruction → HasSpelling version instruction }
 {}
 
 /// A module that has a spelling has instructions of its version alone.

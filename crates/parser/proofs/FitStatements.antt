@@ -1,9 +1,9 @@
 -- Statements and blocks fit, and so do the trees of all symbols.
-use Rattle.std.proofs.Common.{◌≡◌, ℕ, ◌+◌, ◌≤◌, List, [], ◌∷◌, sym, subst, inl, inr, arith}
+use Rattle.std.proofs.Common.{◌≡◌, ℕ, ◌+◌, ◌≤◌, List, [], ◌∷◌, sym, subst, inl, inr, ⊎_elim, arith}
 use Rattle.std.specs.Prelude.{Option, None, Some}
 use Rattle.lexer.specs.declared.token.Kind.{Kind}
 use Rattle.lexer.specs.declared.token.Kind.TheVariants as kinds
-use Rattle.syntax.specs.Form.{Form, level, ◌·◌, only, ◌gives◌}
+use Rattle.syntax.specs.Form.{Form, level, ◌·◌, ◌or◌, only, ◌gives◌}
 use Rattle.syntax.specs.Grammar.{at, ◌▸◌, ◌◂◌, base, name, index, expression, call, right, size, block, condition, catch, statement, production, optional, label}
 use Rattle.parser.specs.Parts.{operand_of, declare, declare_array, assign, assign_element, call_statement, catches, receive, send, conditional, while_statement, break_statement, continue_statement, throw_statement, return_statement, attempt, CatchTree}
 use Rattle.syntax.specs.Nesting.{IsNestedExpression, IsNestedOptionalExpression, IsNestedCall, IsNestedRight, IsNestedStatement, IsNestedBlock, AreNestedCatches}
@@ -54,6 +54,14 @@ module _ (fits : ℕ → Type 0) (word : List ℕ → Type 0) (number : ℕ → 
       let keyword = from_at fits word number room kind pair.0 h.0 h.2 in
       let named = name_fits fits word number room pair.1 h.1 h.3 in
       (keyword.0, named.written, omega (arith, keyword.1, named.few, h.4))
+
+  -- a keyword and two forms
+  keyed_two : {A B : Type 0} (kind : Kind) (F : Form A) (G : Form B) (trees : (ℕ × A) × B) (k : ℕ) → Having (at kind · F · G) trees k
+      → fits trees.0.0 × (i : ℕ) × Having F trees.0.1 i × (j : ℕ) × Having G trees.1 j × (1 + (i + j) ≤ k)
+  keyed_two kind F G trees k h =
+      let front = h.2 in
+      let keyword = from_at fits word number room kind trees.0.0 front.0 front.2 in
+      (keyword.0, front.1, front.3, h.1, h.3, omega (arith, keyword.1, front.4, h.4))
 
   pub right_fits : (tree : RightTree) (k : ℕ) → Having right tree k → FitRight tree k
   unfolding right
@@ -214,30 +222,26 @@ module _ (fits : ℕ → Type 0) (word : List ℕ → Type 0) (number : ℕ → 
   conditional_fits : (tree : StatementTree) (k : ℕ) → Having conditional tree k → FitStatement tree k
   unfolding conditional
   conditional_fits tree k h =
-      let a = h.1 in
-      let b = a.2 in
-      let c = b.2 in
-      let keyword = from_at fits word number room kinds.If h.0.0.0.0 c.0 c.2 in
-      let test = condition_fits h.0.0.0.1 c.1 c.3 in
-      let body = block_fits h.0.0.1 b.1 b.3 in
-      let other = otherwise_fits h.0.1 a.1 a.3 in
-      subst (λ t. FitStatement t k) (sym h.2) (if_fits h.0.0.0.0 h.0.0.0.1 h.0.0.1 h.0.1 k keyword.0 test.written test.nested body.written body.nested (record {
+      let both = h.1 in
+      let front = keyed_two kinds.If condition block h.0.0 both.0 both.2 in
+      let test = condition_fits h.0.0.0.1 front.1 front.2 in
+      let body = block_fits h.0.0.1 front.3 front.4 in
+      let other = otherwise_fits h.0.1 both.1 both.3 in
+      subst (λ t. FitStatement t k) (sym h.2) (if_fits h.0.0.0.0 h.0.0.0.1 h.0.0.1 h.0.1 k front.0 test.written test.nested body.written body.nested (record {
         written = other.written;
-        few = omega (arith, keyword.1, test.few, body.few, other.few, a.4, b.4, c.4);
+        few = omega (arith, front.5, test.few, body.few, other.few, both.4);
         nested = other.nested;
       }))
 
   while_fits : (tree : StatementTree) (k : ℕ) → Having while_statement tree k → FitStatement tree k
   unfolding while_statement
   while_fits tree k h =
-      let a = h.1 in
-      let b = a.2 in
-      let keyword = from_at fits word number room kinds.While h.0.0.0 b.0 b.2 in
-      let test = condition_fits h.0.0.1 b.1 b.3 in
-      let body = block_fits h.0.1 a.1 a.3 in
+      let parts = keyed_two kinds.While condition block h.0 k h.1 in
+      let test = condition_fits h.0.0.1 parts.1 parts.2 in
+      let body = block_fits h.0.1 parts.3 parts.4 in
       subst (λ t. FitStatement t k) (sym h.2) (record {
-        written = (keyword.0, test.written, body.written);
-        few = omega (arith, keyword.1, test.few, body.few, a.4, b.4);
+        written = (parts.0, test.written, body.written);
+        few = omega (arith, parts.5, test.few, body.few);
         nested = (test.nested, body.nested);
       })
 
@@ -330,14 +334,12 @@ module _ (fits : ℕ → Type 0) (word : List ℕ → Type 0) (number : ℕ → 
   attempt_fits : (tree : StatementTree) (k : ℕ) → Having attempt tree k → FitStatement tree k
   unfolding attempt
   attempt_fits tree k h =
-      let a = h.1 in
-      let b = a.2 in
-      let keyword = from_at fits word number room kinds.Try h.0.0.0 b.0 b.2 in
-      let body = block_fits h.0.0.1 b.1 b.3 in
-      let list = catches_fit h.0.1 a.1 a.3 in
+      let parts = keyed_two kinds.Try block catches h.0 k h.1 in
+      let body = block_fits h.0.0.1 parts.1 parts.2 in
+      let list = catches_fit h.0.1 parts.3 parts.4 in
       subst (λ t. FitStatement t k) (sym h.2) (record {
-        written = (keyword.0, body.written, list.written);
-        few = omega (arith, keyword.1, body.few, list.few, a.4, b.4);
+        written = (parts.0, body.written, list.written);
+        few = omega (arith, parts.5, body.few, list.few);
         nested = (body.nested, list.nested);
       })
 
@@ -346,53 +348,25 @@ module _ (fits : ℕ → Type 0) (word : List ℕ → Type 0) (number : ℕ → 
       let body = block_fits h.0 k h.1 in
       subst (λ t. FitStatement t k) (sym h.2) (record { written = body.written; few = body.few; nested = body.nested })
 
-  statement_fits : (tree : StatementTree) (k : ℕ) → Having statement tree k → FitStatement tree k
+  -- all trees of a form
+  record AllFit (F : Form StatementTree) : Type 0 where
+    pub fit : (tree : StatementTree) (k : ℕ) → Having F tree k → FitStatement tree k
+
+  either : (F : Form StatementTree) {G : Form StatementTree} → ((tree : StatementTree) (k : ℕ) → Having F tree k → FitStatement tree k) → AllFit G → AllFit (F or G)
+  either F one others = record { fit = λ tree k. ⊎_elim (one tree k) (others.fit tree k) }
+
+  statement_fits : AllFit statement
   unfolding statement declare declare_array assign assign_element call_statement receive send conditional while_statement break_statement continue_statement throw_statement return_statement catches attempt
-  statement_fits tree k h = elim h [
-    | inl one ↦ declare_fits tree k one
-    | inr h ↦ elim h [
-      | inl one ↦ declare_array_fits tree k one
-      | inr h ↦ elim h [
-        | inl one ↦ assign_fits tree k one
-        | inr h ↦ elim h [
-          | inl one ↦ assign_element_fits tree k one
-          | inr h ↦ elim h [
-            | inl one ↦ call_statement_fits tree k one
-            | inr h ↦ elim h [
-              | inl one ↦ receive_fits tree k one
-              | inr h ↦ elim h [
-                | inl one ↦ send_fits tree k one
-                | inr h ↦ elim h [
-                  | inl one ↦ conditional_fits tree k one
-                  | inr h ↦ elim h [
-                    | inl one ↦ while_fits tree k one
-                    | inr h ↦ elim h [
-                      | inl one ↦ break_fits tree k one
-                      | inr h ↦ elim h [
-                        | inl one ↦ continue_fits tree k one
-                        | inr h ↦ elim h [
-                          | inl one ↦ throw_fits tree k one
-                          | inr h ↦ elim h [
-                            | inl one ↦ return_fits tree k one
-                            | inr h ↦ elim h [ inl one ↦ attempt_fits tree k one | inr one ↦ nested_fits tree k one ]
-                          ]
-                        ]
-                      ]
-                    ]
-                  ]
-                ]
-              ]
-            ]
-          ]
-        ]
-      ]
-    ]
-  ]
+  statement_fits =
+      either declare declare_fits (either declare_array declare_array_fits (either assign assign_fits (either assign_element assign_element_fits
+      (either call_statement call_statement_fits (either receive receive_fits (either send send_fits (either conditional conditional_fits
+      (either while_statement while_fits (either break_statement break_fits (either continue_statement continue_fits
+      (either throw_statement throw_fits (either return_statement return_fits (either attempt attempt_fits (record { fit = nested_fits }))))))))))))))
 
   each_statement : (trees : List StatementTree) (k : ℕ) → Each (Having statement) trees k → FitStatements fits word number room trees k
   each_statement [] k h = record { written = tt; few = omega arith; nested = tt }
   each_statement (tree ∷ trees) k h =
-      let one = statement_fits tree h.0 h.2 in
+      let one = statement_fits.fit tree h.0 h.2 in
       let others = each_statement trees h.1 h.3 in
       record {
         written = (one.written, others.written);

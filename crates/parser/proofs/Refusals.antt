@@ -14,22 +14,19 @@ use Rattle.parser.proofs.Programs.{Verdict, verdict}
 
 -- tokens in front of others that begin a program, or are one, begin one
 within_front : (front more : List Terminal) → IsPrefixWithin (front ++ more) → IsPrefixWithin front
-within_front front more b = record {
-  more = more ++ b.more;
-  tree = b.tree;
-  spelled = subst (λ list. SpellsBut (length (more ++ b.more)) list b.tree) (append_assoc front more b.more) (grows program 64 (length b.more) (length (more ++ b.more)) (omega (arith, length-append more b.more)) ((front ++ more) ++ b.more) b.tree [] b.spelled);
-}
+within_front front more (others, tree, spelled) = (
+  more ++ others,
+  tree,
+  subst (λ list. SpellsBut (length (more ++ others)) list tree) (append_assoc front more others) (grows program 64 (length others) (length (more ++ others)) (omega (arith, length-append more others)) ((front ++ more) ++ others) tree [] spelled),
+)
 
 within_prefix : (front : List Terminal) → IsPrefixWithin front → IsPrefixOfProgram front
-within_prefix front b = record {
-  more = b.more;
-  tree = b.tree;
-  spelled = grows program 64 (length b.more) (length (front ++ b.more)) (omega (arith, length-append front b.more)) (front ++ b.more) b.tree [] b.spelled;
-}
+within_prefix front (more, tree, spelled) =
+    (more, tree, grows program 64 (length more) (length (front ++ more)) (omega (arith, length-append front more)) (front ++ more) tree [] spelled)
 
 spelled_front : (front more : List Terminal) (tree : ProgramTree) → SpellsProgram (front ++ more) tree → IsPrefixWithin front
 spelled_front front more tree spelled =
-    record { more = more; tree = tree; spelled = grows program 64 0 (length more) (omega arith) (front ++ more) tree [] spelled }
+    (more, tree, grows program 64 0 (length more) (omega arith) (front ++ more) tree [] spelled)
 
 -- two tokens of a list, each with what stands before it and after it, are one, or one stands before the other
 data Order (a : List Terminal) (x : Terminal) (c : List Terminal) (y : Terminal) : Type 0 where

@@ -4,11 +4,12 @@ ghost use Rattle.lexer.specs.declared.token.Kind.TheVariants.{Comma, Assign, Col
 ghost use Rattle.syntax.specs.Form.{many, ◌·◌, ◌gives◌};
 ghost use Rattle.syntax.specs.Grammar.{constant, global_value, channel, exception, global, written_result, parameter, thrown, throws, procedure, direction, item, label, separated, ◌▸◌, optional, some};
 ghost use Rattle.parser.specs.Parts.{negative_constant, some_throws, valued, thrown_list};
-ghost use Rattle.syntax.specs.Tree.{label_tree, optional_label_tree, constant_tree, global_value_tree, written_result_tree, parameter_tree, thrown_tree, item_tree};
+ghost use Rattle.syntax.specs.Tree.{ParameterTree, ThrownTree, label_tree, optional_label_tree, constant_tree, global_value_tree, written_result_tree, parameter_tree, thrown_tree, item_tree};
 ghost use Rattle.parser.specs.Reading.{IsRead, read, kind_at, begins_item};
 
 use crate::cursor::Parser;
 use crate::fault::ParseFault;
+use crate::listed::Listed;
 use common::Direction;
 use common::limits::MAX_LEVELS;
 use lexer::Kind;
@@ -199,38 +200,28 @@ impl<'t, 'a> Parser<'t, 'a> {
             name,
         })
     }
+}
 
-    #[tactic(auto, unfolding(crate::specs::Reading::read))]
-    fn parse_another_parameter(&mut self) -> Result<Parameter<'a>, ParseFault>
-        ensures { (room : ℕ) → IsRead parameter_tree result self.new.rest.now
-            (read room (Comma ▸ parameter) (terminals_of self.old.rest.now)) }
-    {
-        self.expect(Kind::Comma)?;
-        self.parse_parameter()
+impl<'a> Listed<'a> for Parameter<'a> {
+    ghost Tree = { ParameterTree };
+
+    ghost form = { parameter };
+
+    ghost tree = { parameter_tree };
+
+    fn parse<'t>(parser: &mut Parser<'t, 'a>) -> Result<Parameter<'a>, ParseFault> {
+        parser.parse_parameter()
     }
+}
 
-    fn parse_some_parameters(&mut self) -> Result<Vec<Parameter<'a>>, ParseFault>
-        ensures { (room : ℕ) → IsRead (λ parameters. map parameter_tree parameters.items) result
-            self.new.rest.now (read room (separated Comma parameter)
-            (terminals_of self.old.rest.now)) }
-    {
-        let mut parameters = Vec::new(self.alloc);
-        let first = self.parse_parameter()?;
-        parameters.push(first)?;
-        while self.is_at(Kind::Comma) {
-            let parameter = self.parse_another_parameter()?;
-            parameters.push(parameter)?;
-        }
-        Ok(parameters)
-    }
-
+impl<'t, 'a> Parser<'t, 'a> {
     #[tactic(auto, using(crate::proofs::Items::parameters_reads))]
     fn parse_parameters(&mut self) -> Result<Vec<Parameter<'a>>, ParseFault>
         ensures { (room : ℕ) → IsRead (λ parameters. map parameter_tree parameters.items) result
             self.new.rest.now (read room (some Comma parameter) (terminals_of self.old.rest.now)) }
     {
         match self.kind() {
-            Kind::Int | Kind::Boolean => self.parse_some_parameters(),
+            Kind::Int | Kind::Boolean => self.parse_separated(Kind::Comma),
             _ => Ok(Vec::new(self.alloc)),
         }
     }
@@ -265,28 +256,27 @@ impl<'t, 'a> Parser<'t, 'a> {
         let label = self.parse_label()?;
         Ok(Thrown { name, label })
     }
+}
 
-    #[tactic(auto, unfolding(crate::specs::Reading::read))]
-    fn parse_another_thrown(&mut self) -> Result<Thrown<'a>, ParseFault>
-        ensures { (room : ℕ) → IsRead thrown_tree result self.new.rest.now
-            (read room (Comma ▸ thrown) (terminals_of self.old.rest.now)) }
-    {
-        self.expect(Kind::Comma)?;
-        self.parse_thrown()
+impl<'a> Listed<'a> for Thrown<'a> {
+    ghost Tree = { ThrownTree };
+
+    ghost form = { thrown };
+
+    ghost tree = { thrown_tree };
+
+    fn parse<'t>(parser: &mut Parser<'t, 'a>) -> Result<Thrown<'a>, ParseFault> {
+        parser.parse_thrown()
     }
+}
 
+impl<'t, 'a> Parser<'t, 'a> {
+    #[tactic(auto, unfolding(crate::specs::Parts::thrown_list))]
     fn parse_thrown_list(&mut self) -> Result<Vec<Thrown<'a>>, ParseFault>
         ensures { (room : ℕ) → IsRead (λ list. map thrown_tree list.items) result self.new.rest.now
             (read room thrown_list (terminals_of self.old.rest.now)) }
     {
-        let mut list = Vec::new(self.alloc);
-        let first = self.parse_thrown()?;
-        list.push(first)?;
-        while self.is_at(Kind::Comma) {
-            let thrown = self.parse_another_thrown()?;
-            list.push(thrown)?;
-        }
-        Ok(list)
+        self.parse_separated(Kind::Comma)
     }
 
     #[tactic(auto, unfolding(crate::specs::Parts::some_throws, crate::specs::Reading::read))]

@@ -6,6 +6,7 @@ mod expression;
 pub mod fault;
 mod item;
 mod label;
+mod listed;
 pub mod program;
 mod statement;
 

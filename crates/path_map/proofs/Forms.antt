@@ -2,6 +2,7 @@
 use Rattle.std.proofs.Common.{◌≡◌, sym, ap, ◌∙◌, subst, ℕ, List, [], ◌∷◌, ◌++◌, Bool, false, ◌||◌, filter, length}
 use Rattle.std.specs.Prelude.{◌==◌, Option, Some, None}
 use Rattle.std.proofs.lemmas.List.Folds.{list_any-append}
+use Rattle.resolved.specs.FaultParts.{inner_faults}
 use Rattle.resolved.specs.declared.statement.Statement as S
 use Rattle.resolved.specs.declared.statement.Exit.{Exit}
 use Rattle.resolved.specs.declared.statement.Exit.TheVariants.{Normal, Return}
@@ -9,7 +10,6 @@ use Rattle.resolved.specs.Tree.{Expression, Statement, If, While, Try, ReturnWit
 use Rattle.resolved.specs.TreeOf.{statement_of}
 use Rattle.resolved.specs.Program.{Program}
 use Rattle.resolved.specs.Exits.{thrown_exits, leaves_loop, raises, index_can_raise, index_raises, statement_exits, block_exits, handlers_exits}
-use Rattle.resolved.specs.ExitFaults.{inner_faults}
 use Rattle.path_map.specs.declared.exits.Raised.{Raised}
 use Rattle.path_map.specs.Exits.{Exits}
 use Rattle.common.specs.declared.fault.OrNoMemory.{OrNoMemory}

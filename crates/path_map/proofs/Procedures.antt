@@ -19,7 +19,8 @@ use Rattle.labels.specs.Label.{Label}
 use Rattle.resolved.specs.Program.{Program, ProcedureEntry}
 use Rattle.resolved.specs.ProgramOf.{result_entry, procedure_entry}
 use Rattle.resolved.specs.Exits.{has_exit, declared_by, block_exits}
-use Rattle.resolved.specs.ExitFaults.{fault_unless, may_exit, block_faults, procedure_faults}
+use Rattle.resolved.specs.ExitFaults.{fault_unless, block_faults, procedure_faults}
+use Rattle.resolved.specs.FaultParts.{may_exit}
 use Rattle.resolved.specs.declared.fault.ExitRefusalKind.TheVariants.{NoValueReturned, Undeclared}
 use Rattle.path_map.specs.declared.exits.Raised.TheVariants.{Several}
 use Rattle.path_map.specs.Exits.{Exits}
@@ -38,7 +39,7 @@ use Rattle.path_map.proofs.Summary.{same-number, raised-append, throws-thrown}
 use Rattle.path_map.proofs.Declared.{declared-same}
 use Rattle.path_map.proofs.Alike.{alike-refl, alike-step, alike-end}
 use Rattle.path_map.proofs.Walking.{first-left}
-use Rattle.resolved.proofs.Exits.{all-has}
+use Rattle.resolved.proofs.Exits.{all-has, thrown-break, thrown-continue}
 
 not-all : (f : Exit → Bool) (ends : List Exit) (x : Exit) → has_exit ends x ≡ true → f x ≡ false → list_all f ends ≡ false
 not-all f ends x there is = go (list_all f ends) refl
@@ -69,8 +70,8 @@ module _ (procedure : ProcedureEntry) where
     where
       go : (b : Bool) → has_exit ends Break ≡ b → (c : Bool) → has_exit ends Continue ≡ c → (d : Bool) → AreDeclared set (declared_by procedure.throws) d
           → list_all (may_exit procedure) ends ≡ not (has_exit ends Break || (has_exit ends Continue || not d))
-      go true e c f d are = rw e (not-all (may_exit procedure) ends Break e refl)
-      go false e true f d are = rw (e, f) (not-all (may_exit procedure) ends Continue f refl)
+      go true e c f d are = rw e (not-all (may_exit procedure) ends Break e (thrown-break (declared_by procedure.throws)))
+      go false e true f d are = rw (e, f) (not-all (may_exit procedure) ends Continue f (thrown-continue (declared_by procedure.throws)))
       go false e false f true are = rw (e, f) (all-end ends e f (λ x there. are x (same x ∙ there)))
       go false e false f false are =
           rw (e, f) (not-all (may_exit procedure) ends (Throw are.exception) (sym (same are.exception) ∙ are.has) (throw-ends are.exception ∙ are.none))

@@ -5,17 +5,19 @@ use Rattle.std.proofs.lemmas.Bool.{eqb-true, eqb-false, eq-eqb, ne_eqb}
 use Rattle.std.proofs.lemmas.List.{length-append}
 use Rattle.std.proofs.Math.Bool.{or-false, and-false, or_assoc}
 use Rattle.std.proofs.lemmas.List.Folds.{list_any-append}
+use Rattle.resolved.specs.FaultParts.{place_of, may_stand, inner_faults}
 use Rattle.resolved.specs.declared.statement.Exit.{Exit}
 use Rattle.resolved.specs.declared.statement.Exit.TheVariants.{Normal, Return, Break, Continue, Throw}
-use Rattle.resolved.specs.Tree.{Statement, Block, Empty, Then, Handlers, NoMore, Catch, place_of}
+use Rattle.resolved.specs.Tree.{Statement, Block, Empty, Then, Handlers, NoMore, Catch}
 use Rattle.resolved.specs.Program.{Program}
 use Rattle.resolved.specs.Exits.{same_exit, has_exit, thrown_exits, then_exits, leaves_loop, handles, passes, statement_exits, block_exits, handlers_exits}
-use Rattle.resolved.specs.ExitFaults.{may_stand, inner_faults, block_faults, handlers_faults}
+use Rattle.resolved.specs.ExitFaults.{fault_unless, block_faults, handlers_faults}
 use Rattle.resolved.specs.declared.fault.ExitRefusal.{ExitRefusal}
 use Rattle.path_map.specs.declared.exits.Raised.{Raised}
 use Rattle.path_map.specs.declared.exits.Raised.TheVariants.{Nothing}
 use Rattle.path_map.specs.Exits.{Exits}
 use Rattle.resolved.specs.declared.fault.ExitRefusalKind.TheVariants as kind
+use Rattle.resolved.proofs.Exits.{faults-in_parts}
 use Rattle.common.specs.declared.fault.OrNoMemory.{OrNoMemory}
 use Rattle.common.specs.declared.fault.OrNoMemory.TheVariants.{NoMemory, Refused}
 use Rattle.common.specs.Answers.{IfRefused}
@@ -122,9 +124,6 @@ module _ (b h : List Exit) (handlers : Handlers) (pb ph : List (List Exit)) (e0 
   pass-throws e =
       throws-pass handlers b e ∙ ap (λ z. z && not (handles handlers e)) (sym (inner-throws e)) ∙ sym (left.has e)
 
-  pub are-thrown : AreThrown i1 b
-  are-thrown = record { has = inner-throws }
-
   pub try-found : IsFound (filter (passes handlers) b ++ h) (pb ++ ph) e0 e2 r0 r2 (join (record x { raised = k }) y)
   try-found =
       let passing : List Exit = filter (passes handlers) b in
@@ -175,22 +174,27 @@ module _ (program : Program) (in_loop : Bool) (block : Block) (old : List (List 
 
   module _ (statement : Statement) (tail : Block) (now : List (List Exit)) (has : ℕ → Bool) (so_far : Exits)
       (along : Along program in_loop block (Then statement tail) old now had has so_far) where
+    in_parts : fault_unless (may_stand in_loop statement) kind.OutsideLoop (place_of statement)
+        ++ fault_unless so_far.normal kind.Unreachable (place_of statement) ++ inner_faults program in_loop statement
+        ++ block_faults program in_loop (has_exit (statement_exits program statement) Normal) tail ≡ block_faults program in_loop true block
+    in_parts = sym (faults-in_parts program in_loop so_far.normal tail statement) ∙ along.faults
+
     pub outside : may_stand in_loop statement ≡ false
         → IfRefused (IsFirstEndFault (block_faults program in_loop true block)) (Refused (record { kind = kind.OutsideLoop; at = place_of statement }))
     outside stands =
-        subst (λ faults. IfRefused (IsFirstEndFault faults) (Refused (record { kind = kind.OutsideLoop; at = place_of statement }))) along.faults
+        subst (λ faults. IfRefused (IsFirstEndFault faults) (Refused (record { kind = kind.OutsideLoop; at = place_of statement }))) in_parts
         (rw stands refl)
 
     pub unreachable : may_stand in_loop statement ≡ true → so_far.normal ≡ false
         → IfRefused (IsFirstEndFault (block_faults program in_loop true block)) (Refused (record { kind = kind.Unreachable; at = place_of statement }))
     unreachable stands reached =
-        subst (λ faults. IfRefused (IsFirstEndFault faults) (Refused (record { kind = kind.Unreachable; at = place_of statement }))) along.faults
+        subst (λ faults. IfRefused (IsFirstEndFault faults) (Refused (record { kind = kind.Unreachable; at = place_of statement }))) in_parts
         (rw (stands, reached) refl)
 
     pub inside : may_stand in_loop statement ≡ true → so_far.normal ≡ true → (fault : OrNoMemory ExitRefusal) → IfRefused (IsFirstEndFault (inner_faults program in_loop statement)) fault
         → IfRefused (IsFirstEndFault (block_faults program in_loop true block)) fault
     inside stands reached fault first =
-        subst (λ faults. IfRefused (IsFirstEndFault faults) fault) along.faults
+        subst (λ faults. IfRefused (IsFirstEndFault faults) fault) in_parts
         (rw (stands, reached) (first-left (inner_faults program in_loop statement) (block_faults program in_loop (has_exit (statement_exits program statement) Normal) tail) fault first))
 
     pub along-step : may_stand in_loop statement ≡ true → so_far.normal ≡ true → (next : List (List Exit)) (more : ℕ → Bool) (found : Exits)
@@ -218,7 +222,7 @@ module _ (program : Program) (in_loop : Bool) (block : Block) (old : List (List 
           faults =
               ap (λ b. block_faults program in_loop b tail) goes_on
               ∙ sym (rw (stands, reached, clean) refl)
-              ∙ along.faults;
+              ∙ in_parts;
         }
 
   pub along-end : (now : List (List Exit)) (has : ℕ → Bool) (so_far : Exits) → Along program in_loop block Empty old now had has so_far

@@ -2,6 +2,7 @@
 -- Source: our own.
 use Rattle.std.specs.Prelude.{◌≡◌, ℕ, ◌+◌, ◌<◌, List, [], ◌++◌, length, Bool, true, not, ◌&&◌, IsTrue, All}
 use Rattle.common.specs.declared.exceptions.TheConstants.{BUILT_IN}
+use Rattle.resolved.specs.FaultParts.{inner_faults}
 use Rattle.resolved.specs.declared.program.Core.{Core}
 use Rattle.resolved.specs.declared.statement.Exit.{Exit}
 use Rattle.resolved.specs.declared.statement.Statement as S
@@ -13,11 +14,11 @@ use Rattle.resolved.specs.Tree.{Handlers}
 use Rattle.resolved.specs.Program.{ProcedureEntry}
 use Rattle.resolved.specs.WellFormed.{block_fits, handlers_fit, statement_fits}
 use Rattle.resolved.specs.Exits.{handles, statement_exits, block_exits, handlers_exits}
-use Rattle.resolved.specs.ExitFaults.{inner_faults, block_faults, handlers_faults}
+use Rattle.resolved.specs.ExitFaults.{block_faults, handlers_faults}
 use Rattle.resolved.specs.declared.fault.ExitRefusal.{ExitRefusal}
 use Rattle.path_map.specs.Exits.{Exits}
 use Rattle.path_map.specs.Exits.{exits_of}
-use Rattle.path_map.specs.Paths.{HaveSameExits, statement_paths, inner_paths, block_paths, rest_paths, handlers_paths}
+use Rattle.path_map.specs.Paths.{HaveSameExits, inner_paths, block_paths, handlers_paths}
 use Rattle.path_map.specs.Sets.{IsSum, throws}
 
 -- of a piece with these exits, and with these in it, where `old` are the exits before it and `had` the exceptions so far
@@ -30,20 +31,12 @@ pub record IsFound (ends : List Exit) (paths : List (List Exit)) (old new : List
 abbrev pub IsFoundAlone : (ends : List Exit) → (had has : ℕ → Bool) → Exits → Type 0
 IsFoundAlone ends had has found = (entries : List (List Exit)) → IsFound ends [] entries entries had has found
 
--- of a block with its own entry, and without it
+-- of a block with its own entry
 abbrev pub IsBlockFound : Core → List S.Statement → (old new : List (List Exit)) (had has : ℕ → Bool) → Exits → Type 0
 IsBlockFound core block =
     IsFound (block_exits (program_of core) (block_of block)) (block_paths (program_of core) (block_of block))
 
-abbrev pub AreStatementsFound : Core → List S.Statement → (old new : List (List Exit)) (had has : ℕ → Bool) → Exits → Type 0
-AreStatementsFound core block =
-    IsFound (block_exits (program_of core) (block_of block)) (rest_paths (program_of core) (block_of block))
-
--- of a statement with its own entry, and without it
-abbrev pub IsStatementFound : Core → S.Statement → (old new : List (List Exit)) (had has : ℕ → Bool) → Exits → Type 0
-IsStatementFound core statement =
-    IsFound (statement_exits (program_of core) (statement_of statement)) (statement_paths (program_of core) (statement_of statement))
-
+-- of a statement without its own entry
 abbrev pub IsFormFound : Core → S.Statement → (old new : List (List Exit)) (had has : ℕ → Bool) → Exits → Type 0
 IsFormFound core statement =
     IsFound (statement_exits (program_of core) (statement_of statement)) (inner_paths (program_of core) (statement_of statement))

@@ -109,7 +109,7 @@ fn leave_open(open: &mut Vec<OpenRow>, new: OpenRow) -> Result<(), AllocError> {
 fn likely(calls: &[usize], call: Option<(u32, Raises)>, last: usize) -> usize {
     match call {
         None => last,
-        Some((callee, raised)) => match calls.get(place_of(callee, raised)) {
+        Some((callee, raised)) => match calls.get(index_of_call(callee, raised)) {
             None => 0,
             Some(row) => *row,
         },
@@ -119,14 +119,14 @@ fn likely(calls: &[usize], call: Option<(u32, Raises)>, last: usize) -> usize {
 // Remembers the row of a call.
 fn remember(calls: &mut [usize], call: Option<(u32, Raises)>, row: usize) {
     if let Some((callee, raised)) = call {
-        if let Some(index) = calls.get_mut(place_of(callee, raised)) {
+        if let Some(index) = calls.get_mut(index_of_call(callee, raised)) {
             *index = row;
         }
     }
 }
 
 // The index of the last row of a call of a procedure, with arguments that can raise these exceptions.
-fn place_of(callee: u32, raised: Raises) -> usize {
+fn index_of_call(callee: u32, raised: Raises) -> usize {
     let arith = if raised.arith { 2 } else { 0 };
     let bounds = if raised.bounds { 1 } else { 0 };
     callee as usize * 4 + arith + bounds

@@ -3,10 +3,10 @@ ghost use Rattle.common.specs.Answers.{IfRefused};
 ghost use Rattle.path_map.specs.FirstFault.{IsFirstEndFault};
 ghost use Rattle.path_map.specs.Exceptions.{AreRaised};
 ghost use Rattle.path_map.specs.Sets.{members};
-ghost use Rattle.path_map.specs.Walks.{AreHandlersFound, AreLeft, AreStatementsFound, AreThrown, BlockFits, HandlersFit, IsBlockFound, IsFormFound, IsFoundAlone, IsStatementFound, StatementFits, faults_of_block, faults_of_handlers, faults_within};
+ghost use Rattle.path_map.specs.Walks.{AreHandlersFound, AreLeft, AreThrown, BlockFits, HandlersFit, IsBlockFound, IsFormFound, IsFoundAlone, StatementFits, faults_of_block, faults_of_handlers, faults_within};
 ghost use Rattle.common.specs.declared.fault.OrNoMemory.TheVariants.{Refused};
+ghost use Rattle.resolved.specs.FaultParts.{may_stand};
 ghost use Rattle.resolved.specs.CoreOf.{program_of};
-ghost use Rattle.resolved.specs.ExitFaults.{may_stand};
 ghost use Rattle.resolved.specs.Exits.{declared_by, raises, thrown_exits};
 ghost use Rattle.resolved.specs.Program.{procedure_at};
 ghost use Rattle.resolved.specs.TreeOf.{expression_of, handlers_of, statement_of};
@@ -28,8 +28,8 @@ use resolved::statement::{Exit, Handler, Statement};
 use resolved::{ExitRefusal, ExitRefusalKind};
 use std::alloc::AllocError;
 
-// Finds the exits of a block and of what is in it. The block's own entry is the first of the new ones. Its exceptions are added to
-// the set.
+// Finds the exits of a block and of the statements in it. The block's own entry is the first of the new ones, and that of a statement
+// comes before those of the blocks in it. The block's exceptions are added to the set.
 #[cycle(walk)]
 pub(crate) fn walk_block(
     walk: &EndsWalk,
@@ -49,30 +49,6 @@ pub(crate) fn walk_block(
 {
     let at = table.reserve()?;
     let mut own = ExceptionSet::new(walk.alloc, walk.bound);
-    let exits = walk_statements(walk, in_loop, block, table, &mut own)?;
-    raised.unite(&own)?;
-    table.put(at, exits, own, None)?;
-    Ok(exits)
-}
-
-// Finds the exits of a block, and of the statements in it.
-#[cycle(walk)]
-fn walk_statements(
-    walk: &EndsWalk,
-    in_loop: bool,
-    block: &[Statement],
-    table: &mut Ends,
-    raised: &mut ExceptionSet,
-) -> Result<Exits, EndFault>
-    requires fits { BlockFits walk.now.core.now block.now }
-    requires bound { raised.old.bound ≡ walk.now.bound }
-    ensures bound { raised.new.bound ≡ raised.old.bound }
-    ensures found { IfOk result (AreStatementsFound walk.now.core.now block.now
-        table.old table.new (members raised.old) (members raised.new)) }
-    ensures accepted { OnOk result (faults_of_block walk.now.core.now in_loop block.now ≡ []) }
-    ensures first_fault { IfErr result (IfRefused (IsFirstEndFault
-        (faults_of_block walk.now.core.now in_loop block.now))) }
-{
     let mut exits = Exits::go_on_or_raise(Raised::Nothing);
     for statement in block {
         if !may_stand(in_loop, statement) {
@@ -81,35 +57,15 @@ fn walk_statements(
         if !exits.normal {
             return Err(refuse(ExitRefusalKind::Unreachable, statement.at()));
         }
-        let found = walk_statement(walk, in_loop, statement, table, raised)?;
+        let place = table.reserve()?;
+        let mut inner = ExceptionSet::new(walk.alloc, walk.bound);
+        let found = walk_form(walk, in_loop, statement, table, &mut inner)?;
+        own.unite(&inner)?;
+        table.put(place, found, inner, call_of(statement))?;
         exits = exits.then(found);
     }
-    Ok(exits)
-}
-
-// Finds the exits of a statement and of what is in it. The statement's own entry is the first of the new ones.
-#[cycle(walk)]
-fn walk_statement(
-    walk: &EndsWalk,
-    in_loop: bool,
-    statement: &Statement,
-    table: &mut Ends,
-    raised: &mut ExceptionSet,
-) -> Result<Exits, EndFault>
-    requires fits { StatementFits walk.now.core.now statement.now }
-    requires bound { raised.old.bound ≡ walk.now.bound }
-    ensures bound { raised.new.bound ≡ raised.old.bound }
-    ensures found { IfOk result (IsStatementFound walk.now.core.now statement.now
-        table.old table.new (members raised.old) (members raised.new)) }
-    ensures accepted { OnOk result (faults_within walk.now.core.now in_loop statement.now ≡ []) }
-    ensures first_fault { IfErr result (IfRefused (IsFirstEndFault
-        (faults_within walk.now.core.now in_loop statement.now))) }
-{
-    let at = table.reserve()?;
-    let mut own = ExceptionSet::new(walk.alloc, walk.bound);
-    let exits = walk_form(walk, in_loop, statement, table, &mut own)?;
     raised.unite(&own)?;
-    table.put(at, exits, own, call_of(statement))?;
+    table.put(at, exits, own, None)?;
     Ok(exits)
 }
 

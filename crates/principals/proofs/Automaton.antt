@@ -260,18 +260,17 @@ live Ended = ([], [], refl)
 
 pub is_prefix : (front : List Terminal) (s : ReadingState) (es : List Entry) → run Fresh front ≡ Some (s, es) → IsPrefixOfForm front
 is_prefix front s es h =
-    let end = live s in
-    record {
-      more = end.0;
-      entries = es ++ end.1;
-      form = read_is_open (front ++ end.0) Fresh (es ++ end.1)
-          (run-append Fresh front end.0 ∙ ap (then_run end.0) h ∙ ap (onto es) end.2);
-    }
+    let end = live s in (
+      end.0,
+      es ++ end.1,
+      read_is_open (front ++ end.0) Fresh (es ++ end.1)
+          (run-append Fresh front end.0 ∙ ap (then_run end.0) h ∙ ap (onto es) end.2),
+    )
 
 pub stops : (front : List Terminal) (t : Terminal) (s : ReadingState) (es : List Entry) → run Fresh front ≡ Some (s, es) → next s t ≡ None → IsPrefixOfForm (front ++ t ∷ []) → ⊥
-stops front t s es h k b =
-    let whole : run Fresh ((front ++ t ∷ []) ++ b.more) ≡ Some (Ended, b.entries) = derived_is_read b.form in
-    none-some (Ended, b.entries) (sym (run-stop Fresh front t b.more s es h k) ∙ ap (run Fresh) (sym (append_assoc front (t ∷ []) b.more)) ∙ whole)
+stops front t s es h k (more, entries, form) =
+    let whole : run Fresh ((front ++ t ∷ []) ++ more) ≡ Some (Ended, entries) = derived_is_read form in
+    none-some (Ended, entries) (sym (run-stop Fresh front t more s es h k) ∙ ap (run Fresh) (sym (append_assoc front (t ∷ []) more)) ∙ whole)
 
 -- ---- the end marker
 

@@ -1,55 +1,18 @@
 -- What holds of acts-for: the test and the relation say the same, both are reflexive and transitive, more pairs never take an
 -- answer away, and every reflexive and transitive relation that contains the written pairs contains acts-for.
-use Rattle.std.proofs.Common.{◌≡◌, ℕ, eqb, List, [], ◌∷◌, ◌⊎◌, ◌↔◌, refl, sym, ◌∙◌, subst, inl, inr, ⊎_elim, ◌<◌, ◌≤◌, arith}
+use Rattle.std.proofs.Common.{◌≡◌, ℕ, eqb, List, [], ◌∷◌, ◌⊎◌, ◌↔◌, refl, sym, subst, inl, inr, ⊎_elim, ◌<◌, ◌≤◌, arith}
 use Rattle.std.specs.Prelude.{Contains, All, IsTrue}
-use Rattle.std.proofs.lemmas.Bool.{eqb-true, eq-eqb, or_left, or_right, or_cases, and_from, and_parts}
+use Rattle.std.proofs.lemmas.Bool.{eqb-true, eq-eqb}
 use Rattle.std.proofs.lemmas.Bool.Decides.{same_from_decides}
 use Rattle.std.proofs.lemmas.List.Elements.{All-contains}
-use Rattle.common.proofs.Elements.{none_in_nil, Contains-cons_cases, Contains-later, Contains-first}
+use Rattle.common.proofs.Elements.{Contains-later, Contains-first}
+use Rattle.common.proofs.Leading.{IsLeading, leading-cases, leading-itself, leading-one, leading-through}
 use Rattle.principals.specs.ActsFor.{ActsFor, itself, written, through, acts_for}
 
 -- ---- the test
 
-pub acts_for-itself : (pairs : List (ℕ × ℕ)) (a : ℕ) → IsTrue (acts_for pairs a a)
-acts_for-itself [] a = eq-eqb a a refl
-acts_for-itself (pair ∷ pairs) a = or_left _ _ (acts_for-itself pairs a)
-
--- what the pairs after the first answer stays answered
-pub acts_for-later : (pair : ℕ × ℕ) (pairs : List (ℕ × ℕ)) (a b : ℕ) → IsTrue (acts_for pairs a b) → IsTrue (acts_for (pair ∷ pairs) a b)
-acts_for-later pair pairs a b h = or_left _ _ h
-
--- by way of the first pair
-pub acts_for-first : (pair : ℕ × ℕ) (pairs : List (ℕ × ℕ)) (a b : ℕ) → IsTrue (acts_for pairs a pair.0) → IsTrue (acts_for pairs pair.1 b) → IsTrue (acts_for (pair ∷ pairs) a b)
-acts_for-first pair pairs a b h k = or_right (acts_for pairs a b) _ (and_from _ _ h k)
-
--- the two ways in which the test answers yes
-pub acts_for-cases : (pair : ℕ × ℕ) (pairs : List (ℕ × ℕ)) (a b : ℕ) → IsTrue (acts_for (pair ∷ pairs) a b) →
-    IsTrue (acts_for pairs a b) ⊎ (IsTrue (acts_for pairs a pair.0) × IsTrue (acts_for pairs pair.1 b))
-acts_for-cases pair pairs a b h =
-    ⊎_elim inl (λ k. inr (and_parts (acts_for pairs a pair.0) (acts_for pairs pair.1 b) k)) (or_cases (acts_for pairs a b) _ h)
-
-pub acts_for-through : (pairs : List (ℕ × ℕ)) (a b c : ℕ) → IsTrue (acts_for pairs a b) → IsTrue (acts_for pairs b c) → IsTrue (acts_for pairs a c)
-acts_for-through [] a b c h k = eq-eqb a c (eqb-true a b h ∙ eqb-true b c k)
-acts_for-through (pair ∷ pairs) a b c h k =
-    ⊎_elim
-    (λ h'. ⊎_elim
-    (λ k'. acts_for-later pair pairs a c (acts_for-through pairs a b c h' k'))
-    (λ k'. acts_for-first pair pairs a c (acts_for-through pairs a b pair.0 h' k'.0) k'.1)
-    (acts_for-cases pair pairs b c k))
-    (λ h'. ⊎_elim
-    (λ k'. acts_for-first pair pairs a c h'.0 (acts_for-through pairs pair.1 b c h'.1 k'))
-    (λ k'. acts_for-first pair pairs a c h'.0 k'.1)
-    (acts_for-cases pair pairs b c k))
-    (acts_for-cases pair pairs a b h)
-
-pub acts_for-written : (pairs : List (ℕ × ℕ)) (a b : ℕ) → Contains pairs (a, b) → IsTrue (acts_for pairs a b)
-acts_for-written [] a b h = absurd (none_in_nil (a, b) h)
-acts_for-written (pair ∷ pairs) a b h =
-    ⊎_elim
-    (λ e. let P : ℕ × ℕ → Type 0 = λ p. IsTrue (acts_for (pair ∷ pairs) p.0 p.1) in
-    subst P e (acts_for-first pair pairs pair.0 pair.1 (acts_for-itself pairs pair.0) (acts_for-itself pairs pair.1)))
-    (λ k. acts_for-later pair pairs a b (acts_for-written pairs a b k))
-    (Contains-cons_cases pair pairs (a, b) h)
+pub acts_for-leading : IsLeading acts_for
+acts_for-leading = record { itself = λ a. eq-eqb a a refl; alone = eqb-true; on = λ pair pairs a b. refl }
 
 -- ---- the relation and the test
 
@@ -68,7 +31,7 @@ ActsFor-monotone pairs others more h = ActsFor-least (ActsFor others) pairs itse
 -- the test answers yes to the relation
 pub acts_for-complete : (pairs : List (ℕ × ℕ)) {a b : ℕ} → ActsFor pairs a b → IsTrue (acts_for pairs a b)
 acts_for-complete pairs h =
-    ActsFor-least (λ a b. IsTrue (acts_for pairs a b)) pairs (acts_for-itself pairs) (acts_for-through pairs) (acts_for-written pairs) h
+    ActsFor-least (λ a b. IsTrue (acts_for pairs a b)) pairs (leading-itself acts_for acts_for-leading pairs) (leading-through acts_for acts_for-leading pairs) (leading-one acts_for acts_for-leading pairs) h
 
 -- and to nothing else
 pub acts_for-sound : (pairs : List (ℕ × ℕ)) (a b : ℕ) → IsTrue (acts_for pairs a b) → ActsFor pairs a b
@@ -80,7 +43,7 @@ acts_for-sound (pair ∷ pairs) a b h =
     (λ k. later a b (acts_for-sound pairs a b k))
     (λ k. through a pair.0 b (later a pair.0 (acts_for-sound pairs a pair.0 k.0))
     (through pair.0 pair.1 b (written pair.0 pair.1 (Contains-first pair pairs)) (later pair.1 b (acts_for-sound pairs pair.1 b k.1))))
-    (acts_for-cases pair pairs a b h)
+    (leading-cases acts_for acts_for-leading pair pairs a b h)
 
 pub acts_for-decides : (pairs : List (ℕ × ℕ)) (a b : ℕ) → IsTrue (acts_for pairs a b) ↔ ActsFor pairs a b
 acts_for-decides pairs a b = (acts_for-sound pairs a b, λ h. acts_for-complete pairs h)
@@ -109,5 +72,5 @@ pub acts_for-outside : (limit : ℕ) (pairs : List (ℕ × ℕ)) → All (λ pai
 acts_for-outside limit pairs below a b past =
     same_from_decides {P = a ≡ b} (eqb a b) (acts_for pairs a b) (eqb-true a b, eq-eqb a b) (
       λ h. ⊎_elim (λ e. e) (λ (l : (a < limit) × (b < limit)). absurd (omega arith)) (acts_for-below limit pairs below a b h),
-      λ e. subst (λ x. IsTrue (acts_for pairs a x)) e (acts_for-itself pairs a),
+      λ e. subst (λ x. IsTrue (acts_for pairs a x)) e (leading-itself acts_for acts_for-leading pairs a),
     )

@@ -7,7 +7,8 @@ use Rattle.std.proofs.lemmas.Bool.Decides.{same_from_decides}
 use Rattle.principals.specs.ActsFor.{acts_for}
 use Rattle.principals.specs.Table.{is_written, has_path_below}
 use Rattle.common.proofs.Elements.{none_in_nil, Contains-cons_cases, Contains-first, Contains-later}
-use Rattle.principals.proofs.Closure.{acts_for-itself, acts_for-through, acts_for-written, acts_for-least, acts_for-below}
+use Rattle.common.proofs.Leading.{leading-itself, leading-one, leading-through}
+use Rattle.principals.proofs.Closure.{acts_for-leading, acts_for-least, acts_for-below}
 
 -- ---- paths by steps of any relation
 
@@ -97,8 +98,8 @@ contained_is_listed (pair ∷ pairs) a b h =
 written_is_answered : (pairs : List (ℕ × ℕ)) (a b : ℕ) → IsTrue (is_written pairs a b) → IsTrue (acts_for pairs a b)
 written_is_answered pairs a b h =
     ⊎_elim
-    (λ g. subst (λ x. IsTrue (acts_for pairs a x)) (eqb-true a b g) (acts_for-itself pairs a))
-    (λ g. acts_for-written pairs a b (listed_is_contained pairs a b g))
+    (λ g. subst (λ x. IsTrue (acts_for pairs a x)) (eqb-true a b g) (leading-itself acts_for acts_for-leading pairs a))
+    (λ g. leading-one acts_for acts_for-leading pairs a b (listed_is_contained pairs a b g))
     (or_cases (eqb a b) _ h)
 
 -- where every number of a pair is below the limit, the paths through numbers below it are acts-for
@@ -106,7 +107,7 @@ pub has_path_below-all : (limit : ℕ) (pairs : List (ℕ × ℕ)) → All (λ p
     (a b : ℕ) → has_path_below limit (is_written pairs) a b ≡ acts_for pairs a b
 has_path_below-all limit pairs below a b =
     let way_is_answered : (x y : ℕ) → Way (is_written pairs) limit x y → IsTrue (acts_for pairs x y) =
-    way_within (is_written pairs) (λ x y. IsTrue (acts_for pairs x y)) (acts_for-through pairs) (written_is_answered pairs) limit in
+    way_within (is_written pairs) (λ x y. IsTrue (acts_for pairs x y)) (leading-through acts_for acts_for-leading pairs) (written_is_answered pairs) limit in
     let join : (x y z : ℕ) → Way (is_written pairs) limit x y → Way (is_written pairs) limit y z → Way (is_written pairs) limit x z =
     λ x y z h g. ⊎_elim
     (λ e. subst (λ w. Way (is_written pairs) limit w z) (sym e) g)

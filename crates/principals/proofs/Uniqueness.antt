@@ -76,20 +76,20 @@ form_once tokens es fs a b = (some_pair_parts Ended Ended es fs (sym (derived_is
 
 form_is_expected : (tokens : List Terminal) (es : List Entry) (at : ℕ) → IsHierarchyForm tokens es → IsUnexpectedInHierarchyAt tokens at → ⊥
 form_is_expected tokens es at form u =
-    u.stops (record {
-      more = u.after;
-      entries = es;
-      form = subst (λ x. IsHierarchyForm x es) (u.tokens_are ∙ sym (append_assoc u.before (u.token ∷ []) u.after)) form;
-    })
+    u.stops (
+      u.after,
+      es,
+      subst (λ x. IsHierarchyForm x es) (u.tokens_are ∙ sym (append_assoc u.before (u.token ∷ []) u.after)) form,
+    )
 
 -- a front of a prefix of a text of the form is such a prefix
 shorter_prefix : (front : List Terminal) (t : Terminal) (between whole : List Terminal) → whole ≡ front ++ t ∷ between → IsPrefixOfForm whole → IsPrefixOfForm (front ++ t ∷ [])
-shorter_prefix front t between whole e b = record {
-  more = between ++ b.more;
-  entries = b.entries;
-  form = subst (λ x. IsHierarchyForm x b.entries)
-      (ap (λ x. x ++ b.more) e ∙ append_assoc front (t ∷ between) b.more ∙ sym (append_assoc front (t ∷ []) (between ++ b.more))) b.form;
-}
+shorter_prefix front t between whole e (more, entries, form) = (
+  between ++ more,
+  entries,
+  subst (λ x. IsHierarchyForm x entries)
+      (ap (λ x. x ++ more) e ∙ append_assoc front (t ∷ between) more ∙ sym (append_assoc front (t ∷ []) (between ++ more))) form,
+)
 
 unexpected_once : (tokens : List Terminal) (at other : ℕ) → IsUnexpectedInHierarchyAt tokens at → IsUnexpectedInHierarchyAt tokens other → at ≡ other
 unexpected_once tokens at other a b =

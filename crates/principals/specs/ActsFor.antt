@@ -20,19 +20,11 @@ abbrev pub acts_for : List (ℕ × ℕ) → ℕ → ℕ → Bool
 acts_for [] a b = a == b
 acts_for (pair ∷ pairs) a b = acts_for pairs a b || (acts_for pairs a pair.0 && acts_for pairs pair.1 b)
 
--- the names are all different
-abbrev pub AllDifferent : List (List ℕ) → Type 0
-AllDifferent names = AllPairs (λ first second. first ≢ second) names
-
--- each number of each pair is below a limit
-abbrev pub AllBelow : ℕ → List (ℕ × ℕ) → Type 0
-AllBelow limit pairs = All (λ pair. (pair.0 < limit) × (pair.1 < limit)) pairs
-
 -- what every hierarchy keeps: at most 256 principals, names that are all different, and pairs of principals that are there
 pub record IsHierarchy (hierarchy : PrincipalHierarchy) : Type 0 where
   pub few : length hierarchy.names ≤ MAX_PRINCIPALS
-  pub different : AllDifferent hierarchy.names
-  pub there : AllBelow (length hierarchy.names) hierarchy.pairs
+  pub different : AllPairs (λ first second. first ≢ second) hierarchy.names
+  pub there : All (λ pair. (pair.0 < length hierarchy.names) × (pair.1 < length hierarchy.names)) hierarchy.pairs
 
 -- the principal with this number has this name
 abbrev pub HasName : PrincipalHierarchy → ℕ → List ℕ → Type 0
@@ -51,3 +43,13 @@ ActsForByName hierarchy first second =
 pub record ContainsHierarchy (larger smaller : PrincipalHierarchy) : Type 0 where
   pub principals : (name : List ℕ) → Contains smaller.names name → Contains larger.names name
   pub acts : (first second : List ℕ) → ActsForByName smaller first second → ActsForByName larger first second
+
+-- ---- parts of what a hierarchy keeps, by which proofs speak of them
+
+-- the names are all different
+abbrev pub AllDifferent : List (List ℕ) → Type 0
+AllDifferent names = AllPairs (λ first second. first ≢ second) names
+
+-- each number of each pair is below a limit
+abbrev pub AllBelow : ℕ → List (ℕ × ℕ) → Type 0
+AllBelow limit pairs = All (λ pair. (pair.0 < limit) × (pair.1 < limit)) pairs

@@ -51,14 +51,8 @@ pub data Derives : Nonterminal → List Terminal → List Entry → Type 0 where
       → Derives Names (name ∷ semicolon ∷ rest) (Declares name ∷ entries)
 
 -- the tokens are a prefix of those of some text of this form
-pub record IsPrefixOfForm (front : List Terminal) : Type 0 where
-  pub more : List Terminal
-  pub entries : List Entry
-  pub form : Derives Items (front ++ more) entries
-
--- the first token with which no text of this form goes on begins at a byte
-abbrev pub IsUnexpectedInHierarchyAt : List Terminal → ℕ → Type 0
-IsUnexpectedInHierarchyAt tokens at = AreRefusedAt IsPrefixOfForm (λ front. ¬ IsPrefixOfForm front) tokens at
+abbrev pub IsPrefixOfForm : List Terminal → Type 0
+IsPrefixOfForm front = (more : List Terminal) × (entries : List Entry) × Derives Items (front ++ more) entries
 
 -- ---- what the entries declare and write
 
@@ -127,7 +121,7 @@ refusal_of_lex refusal = refusal_for Syntax refusal.at
 abbrev pub IsSyntaxRefusal : List ℕ → ℕ → Type 0
 IsSyntaxRefusal text at =
     ((refusal : LexRefusal) × IsTextRefused text refusal × (at ≡ refusal.at))
-    ⊎ ((tokens : List Terminal) × IsCut text tokens × IsUnexpectedInHierarchyAt tokens at)
+    ⊎ ((tokens : List Terminal) × IsCut text tokens × AreRefusedAt IsPrefixOfForm (λ front. ¬ IsPrefixOfForm front) tokens at)
 
 -- the first refusal of a text: that it is too long, that it is not of this form, or the first thing that is wrong with its entries
 pub data IsRefusedText (text : List ℕ) : HierarchyRefusal → Type 0 where
@@ -135,6 +129,10 @@ pub data IsRefusedText (text : List ℕ) : HierarchyRefusal → Type 0 where
   Formless : (at : ℕ) → length text ≤ MAX_TEXT → IsSyntaxRefusal text at → IsRefusedText text (refusal_for Syntax at)
   Wrong : (entries : List Entry) (refusal : HierarchyRefusal) (others : List HierarchyRefusal) → HasEntries text entries
       → all_faults [] entries ≡ refusal ∷ others → IsRefusedText text refusal
+
+-- the first token with which no text of this form goes on begins at a byte
+abbrev pub IsUnexpectedInHierarchyAt : List Terminal → ℕ → Type 0
+IsUnexpectedInHierarchyAt tokens at = AreRefusedAt IsPrefixOfForm (λ front. ¬ IsPrefixOfForm front) tokens at
 
 -- the place of a refusal is a character boundary of the text, so that its line and its column can be found
 abbrev pub HasBoundary : List ℕ → HierarchyRefusal → Type 0

@@ -1,17 +1,11 @@
-ghost use Rattle.principals.specs.RefusalKinds.{hierarchy_refusal_number, hierarchy_refusal_words};
+ghost use Rattle.principals.specs.RefusalKinds.{hierarchy_message};
 ghost use Rattle.principals.specs.HierarchyText.{refusal_of_lex};
 ghost use Rattle.std.specs.Prelude.{◌≡◌, Some};
 
-use common::OrNoMemory;
+use common::{Message, OrNoMemory, Reported};
 use lexer::LexRefusal;
 use std::error::Error;
 use std::fmt;
-
-/// The number by which an unknown principal is reported, in the text of a hierarchy and wherever a host or an observer names one.
-pub const UNKNOWN_PRINCIPAL: u32 = 153;
-
-/// The words by which one is reported.
-pub const UNKNOWN_PRINCIPAL_WORDS: &str = "unknown principal";
 
 /// What is wrong with a text that has no hierarchy.
 #[derive(Clone, Copy, Debug, Drop, PartialEq, Eq)]
@@ -22,36 +16,22 @@ pub enum HierarchyRefusalKind {
     Syntax,
     /// 152: a declared name that was declared before.
     DeclaredTwice,
-    /// 153: a name that was not declared before.
+    /// 153: a name that was not declared before. A host and the command report an unknown principal so too.
     UnknownPrincipal,
     /// 154: the 257th principal.
     TooManyPrincipals,
 }
 
-impl HierarchyRefusalKind {
-    /// The number that the refusal is reported by, 151 to 154 or 701.
-    pub fn number(self) -> u32
-        ensures { result ≡ hierarchy_refusal_number self }
-    {
-        match self {
-            HierarchyRefusalKind::TooLong => 701,
-            HierarchyRefusalKind::Syntax => 151,
-            HierarchyRefusalKind::DeclaredTwice => 152,
-            HierarchyRefusalKind::UnknownPrincipal => UNKNOWN_PRINCIPAL,
-            HierarchyRefusalKind::TooManyPrincipals => 154,
-        }
-    }
+impl Reported for HierarchyRefusalKind {
+    ghost contents = { hierarchy_message };
 
-    /// The words that the refusal is reported by.
-    pub fn words(self) -> &'static str
-        ensures { result.now ≡ hierarchy_refusal_words self }
-    {
+    fn message(&self) -> Message {
         match self {
-            HierarchyRefusalKind::TooLong => "text too long",
-            HierarchyRefusalKind::Syntax => "syntax",
-            HierarchyRefusalKind::DeclaredTwice => "declared twice",
-            HierarchyRefusalKind::UnknownPrincipal => UNKNOWN_PRINCIPAL_WORDS,
-            HierarchyRefusalKind::TooManyPrincipals => "too many principals",
+            HierarchyRefusalKind::TooLong => Message::new(701, "text too long"),
+            HierarchyRefusalKind::Syntax => Message::new(151, "syntax"),
+            HierarchyRefusalKind::DeclaredTwice => Message::new(152, "declared twice"),
+            HierarchyRefusalKind::UnknownPrincipal => Message::new(153, "unknown principal"),
+            HierarchyRefusalKind::TooManyPrincipals => Message::new(154, "too many principals"),
         }
     }
 }
@@ -65,7 +45,7 @@ pub struct HierarchyRefusal {
 }
 
 impl fmt::Display for HierarchyRefusal {
-    ghost output = { λ refusal. Some (hierarchy_refusal_words refusal.kind) };
+    ghost output = { λ refusal. Some (hierarchy_message refusal.kind).words };
 
     fn fmt<W: fmt::Write>(&self, f: &mut fmt::Formatter<W>) -> fmt::Result {
         write!(f, "{}", self.kind.words())

@@ -2,9 +2,7 @@
 
 ghost use Rattle.principals.specs.ActsFor.{ActsFor, acts_for};
 ghost use Rattle.principals.specs.Laws.{HasOneHierarchy, HierarchiesHaveOneRefusal, IsNotReadAndRefused, IsReadOrRefused, NamesAreNames};
-ghost use Rattle.std.specs.Prelude.{Contains, IsTrue, List, codes, ℕ, ◌↔◌, ◌≡◌};
-
-use crate::fault::{UNKNOWN_PRINCIPAL, UNKNOWN_PRINCIPAL_WORDS};
+ghost use Rattle.std.specs.Prelude.{Contains, IsTrue, List, ℕ, ◌↔◌, ◌≡◌};
 
 /// The test and the relation say the same of every list of pairs and every two numbers.
 pub fn acts_for_decides()
@@ -48,11 +46,4 @@ pub fn one_reading()
     ensures one_hierarchy { HasOneHierarchy }
     ensures not_both { IsNotReadAndRefused }
     ensures one_refusal { HierarchiesHaveOneRefusal }
-{}
-
-/// An unknown principal has the number and the words that are written here: a constant that is changed is refused here, while the
-/// definitions that cite it would follow the change.
-pub fn unknown_principal_is_as_written()
-    ensures number { UNKNOWN_PRINCIPAL ≡ 153 }
-    ensures words { UNKNOWN_PRINCIPAL_WORDS.now ≡ codes "unknown principal" }
 {}

@@ -16,9 +16,7 @@ mod reading;
 mod table;
 
 use common::limits::MAX_PRINCIPALS;
-pub use fault::{
-    HierFault, HierarchyRefusal, HierarchyRefusalKind, UNKNOWN_PRINCIPAL, UNKNOWN_PRINCIPAL_WORDS,
-};
+pub use fault::{HierFault, HierarchyRefusal, HierarchyRefusalKind};
 use indexmap::IndexSet;
 pub use principal_set::PrincipalSet;
 use std::alloc::{AllocError, Global};

@@ -1,14 +1,22 @@
 -- Ways out of statements: which are the same, those of exceptions, and that a test of an exit holds where there is no fault.
-use Rattle.std.proofs.Common.{◌≡◌, ℕ, Bool, true, false, not, ◌&&◌, List, [], ◌∷◌, ◌++◌, filter, refl, sym, ap, ◌∙◌, ⊎_elim, eq-eqb, eqb-true}
+use Rattle.std.proofs.Common.{◌≡◌, ℕ, Bool, true, false, not, ◌&&◌, List, [], ◌∷◌, ◌++◌, filter, refl, sym, ap, ◌∙◌, append_assoc, append-nil, ⊎_elim, eq-eqb, eqb-true}
 use Rattle.std.specs.List.{list_all}
 use Rattle.std.proofs.lemmas.Bool.{and_parts, or_cases, or_left}
 use Rattle.std.proofs.lemmas.List.Folds.{list_any-append}
 use Rattle.std.proofs.lemmas.Map.Views.{any-filter_same}
 use Rattle.resolved.specs.declared.statement.Exit.{Exit}
 use Rattle.resolved.specs.declared.statement.Exit.TheVariants.{Normal, Return, Break, Continue, Throw}
-use Rattle.resolved.specs.ExitFaults.{fault_unless}
+use Rattle.resolved.specs.ExitFaults.{fault_unless, block_faults, handlers_faults}
+use Rattle.resolved.specs.FaultParts.{place_of, may_stand, inner_faults}
+use Rattle.resolved.specs.Tree.{Statement, Assign, Clear, Store, Receive, Send, Call, If, While, Leave, ReturnWith, Try, Nested, Block}
+use Rattle.resolved.specs.Tree as tree
+use Rattle.resolved.specs.Program.{Program, ThrownEntry}
+use Rattle.resolved.specs.declared.fault.ExitRefusal.{ExitRefusal}
+use Rattle.resolved.specs.declared.fault.ExitRefusalKind.TheVariants as kind
 use Rattle.resolved.specs.declared.fault.ExitRefusalKind.{ExitRefusalKind}
-use Rattle.resolved.specs.Exits.{has_exit, same_exit, then_exits, thrown_exits}
+use Rattle.resolved.specs.Labelled.{thrown_label}
+use Rattle.std.specs.Prelude.{if◌then◌else◌, ◌==◌}
+use Rattle.resolved.specs.Exits.{has_exit, same_exit, then_exits, thrown_exits, statement_exits, block_exits}
 
 -- exits that the test takes for the same are the same
 pub same-exit : (a b : Exit) → same_exit a b ≡ true → a ≡ b
@@ -69,3 +77,46 @@ then-other first rest exit other h = go (has_exit first Normal) refl
         rw e (list_any-append (same_exit exit) passing rest ∙ or_left (has_exit passing exit) (has_exit rest exit)
         (end-filter (λ x. not (same_exit Normal x)) first exit ∙ rw (other, h) refl))
     go false e = rw e h
+
+-- the label of an exception is that of the first entry if this is of it, and else that of a later one
+pub thrown_label-first : (entry : ThrownEntry) (rest : List ThrownEntry) (exception : ℕ)
+    → thrown_label (entry ∷ rest) exception ≡ (if exception == entry.exception then entry.label else thrown_label rest exception)
+thrown_label-first entry rest exception = go (exception == entry.exception) refl
+  where
+    go : (b : Bool) → (exception == entry.exception) ≡ b
+        → thrown_label (entry ∷ rest) exception ≡ (if exception == entry.exception then entry.label else thrown_label rest exception)
+    go true e = rw e refl
+    go false e = rw e refl
+
+-- the faults of a block, with those of its first statement in parts
+module _ (program : Program) (in_loop reached : Bool) (rest : Block) where
+  abbrev unreached : ℕ → List ExitRefusal
+  unreached at = fault_unless reached kind.Unreachable at
+
+  abbrev parts : Statement → List ExitRefusal
+  parts s = fault_unless (may_stand in_loop s) kind.OutsideLoop (place_of s) ++ unreached (place_of s) ++ inner_faults program in_loop s
+
+  abbrev later : Statement → List ExitRefusal
+  later s = block_faults program in_loop (has_exit (statement_exits program s) Normal) rest
+
+  alone : (s : Statement) (own : List ExitRefusal) → own ++ later s ≡ (own ++ []) ++ later s
+  alone s own = ap (λ xs. xs ++ later s) (sym (append-nil own))
+
+  pub faults-in_parts : (s : Statement) → block_faults program in_loop reached (tree.Then s rest) ≡ parts s ++ later s
+  faults-in_parts (Assign at x e) = alone (Assign at x e) (unreached at)
+  faults-in_parts (Clear at slot) = alone (Clear at slot) (unreached at)
+  faults-in_parts (Store at array count index e) = alone (Store at array count index e) (unreached at)
+  faults-in_parts (Receive at channel target) = alone (Receive at channel target) (unreached at)
+  faults-in_parts (Send at channel e) = alone (Send at channel e) (unreached at)
+  faults-in_parts (Call at procedure arguments target) = alone (Call at procedure arguments target) (unreached at)
+  faults-in_parts (If at e then_block else_block) =
+      ap (λ xs. xs ++ later (If at e then_block else_block))
+      (append_assoc (unreached at) (block_faults program in_loop true then_block) (block_faults program in_loop true else_block))
+  faults-in_parts (While at loop e body) = refl
+  faults-in_parts (Leave at exit) =
+      alone (Leave at exit) (fault_unless (may_stand in_loop (Leave at exit)) kind.OutsideLoop at ++ unreached at)
+  faults-in_parts (ReturnWith at value) = alone (ReturnWith at value) (unreached at)
+  faults-in_parts (Try at block handlers) =
+      ap (λ xs. xs ++ later (Try at block handlers))
+      (append_assoc (unreached at) (block_faults program in_loop true block) (handlers_faults program in_loop (block_exits program block) handlers))
+  faults-in_parts (Nested at block) = refl

@@ -56,8 +56,18 @@ chain-refuses program policy chain last is labelled =
   where
     not_below : (b : Bool) → flows program.hierarchy is.from is.to ≡ b → b ≡ false
     not_below false e = refl
-    not_below true e = absurd (is.not_covered (each_from_All (λ p. Covers program.hierarchy is.to p) is.from
-        ((flows-decides program.hierarchy is.from is.to).0 e) policy is.policy_of))
+    not_below true e =
+        let covered = each_from_All (λ p. Covers program.hierarchy is.to p) is.from
+        ((flows-decides program.hierarchy is.from is.to).0 e) policy is.policy_of in
+        let i : true ≡ false = sym ((covers-decides program.hierarchy is.to policy).1 covered) ∙ is.not_covered in absurd (cc)
+
+-- what is not covered fails the test
+not-covers : (h : PrincipalHierarchy) (to : Label) (policy : ReaderPolicy) → (¬ Covers h to policy) → IsFalse (covers h to policy)
+not-covers h to policy none = go (covers h to policy) refl
+  where
+    go : (b : Bool) → covers h to policy ≡ b → b ≡ false
+    go false e = refl
+    go true e = absurd (none ((covers-decides h to policy).0 e))
 
 -- a label that does not flow has a policy that is not covered
 uncovered : (h : PrincipalHierarchy) (from to : Label) → flows h from to ≡ false → (policy : ReaderPolicy) × Contains from policy × (¬ Covers h to policy)
@@ -114,7 +124,7 @@ labelled-or_refused program =
                   linked = found.2.linked;
                   to = found.2.to;
                   right_is = found.2.right_is;
-                  not_covered = policy.2;
+                  not_covered = not-covers program.hierarchy found.2.to policy.0 policy.2;
                 };
               },
             )
@@ -166,7 +176,7 @@ refused-by program last policy to first there is policy_of uncovered =
         labels = least_labels program;
         least = labels-least program;
         first = first;
-        chained = record { from = from; policy_of = k; linked = linked; to = to; right_is = is; not_covered = uncovered };
+        chained = record { from = from; policy_of = k; linked = linked; to = to; right_is = is; not_covered = not-covers program.hierarchy to policy uncovered };
       },
     )
 
@@ -217,8 +227,8 @@ module _ (program : Program) (cs : List Gathered) (gathered : AreGathered progra
             linked = is.chained.linked;
             to = is.chained.to;
             right_is = is.chained.right_is;
-            not_covered = subst (λ (r : Atom ℕ Label). IsUncovered program.hierarchy r policy)
-                (stands.right_is ∙ ap (renamed gathered.number) is.chained.right_is) uncovered;
+            not_covered = not-covers program.hierarchy is.chained.to policy (subst (λ (r : Atom ℕ Label). IsUncovered program.hierarchy r policy)
+                (stands.right_is ∙ ap (renamed gathered.number) is.chained.right_is) uncovered);
           };
         },
         stands,

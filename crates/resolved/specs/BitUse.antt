@@ -21,8 +21,7 @@ expression_uses_bits (Logical b) = false
 expression_uses_bits (Read x) = false
 expression_uses_bits (Element array length index) = expression_uses_bits index
 expression_uses_bits (Unary prefix e) = expression_uses_bits e
-expression_uses_bits (Binary operator d e) =
-    is_bit_operator operator || expression_uses_bits d || expression_uses_bits e
+expression_uses_bits (Binary operator d e) = is_bit_operator operator || expression_uses_bits d || expression_uses_bits e
 expression_uses_bits (Short connective d e) = expression_uses_bits d || expression_uses_bits e
 
 abbrev mutual

@@ -46,12 +46,9 @@ is_division (Bits operator) = false
 is_division (Compare relation) = false
 is_division (Match sameness) = false
 
--- the exceptions of an access with this index, and of an operator with this right operand
+-- the exceptions of an access with this index
 abbrev pub index_raises : Expression → (length : ℕ) → List ℕ
 index_raises index length = if index_can_raise index length then BOUNDS ∷ [] else []
-
-abbrev pub operator_raises : Operator → Expression → List ℕ
-operator_raises operator e = if is_division operator then (if divisor_can_raise e then ARITH ∷ [] else []) else []
 
 -- the exceptions that an expression can raise: those of all its parts
 abbrev pub raises : Expression → List ℕ
@@ -60,7 +57,8 @@ raises (Logical b) = []
 raises (Read x) = []
 raises (Element array length index) = raises index ++ index_raises index length
 raises (Unary prefix e) = raises e
-raises (Binary operator d e) = raises d ++ raises e ++ operator_raises operator e
+raises (Binary operator d e) =
+    raises d ++ raises e ++ (if is_division operator then (if divisor_can_raise e then ARITH ∷ [] else []) else [])
 raises (Short connective d e) = raises d ++ raises e
 
 abbrev pub thrown_exits : List ℕ → List Exit
@@ -70,13 +68,9 @@ thrown_exits exceptions = map (λ exception. Throw exception) exceptions
 abbrev pub declared_by : List ThrownEntry → List ℕ
 declared_by entries = map (λ (entry : ThrownEntry). entry.exception) entries
 
--- whether an exit of a loop's body is one of the loop
+-- whether an exit of a loop's body is one of the loop: every exit is but those that the loop takes
 abbrev pub leaves_loop : Exit → Bool
-leaves_loop Normal = false
-leaves_loop Return = true
-leaves_loop Break = false
-leaves_loop Continue = false
-leaves_loop (Throw exception) = true
+leaves_loop exit = not (has_exit (Normal ∷ Break ∷ Continue ∷ []) exit)
 
 -- whether one of the handlers takes an exception
 abbrev pub handles : Handlers → (exception : ℕ) → Bool
@@ -90,8 +84,7 @@ passes handlers other = true
 
 -- the exits of a first part, its normal exit replaced by the exits of what follows
 abbrev pub then_exits : List Exit → List Exit → List Exit
-then_exits first rest =
-    if has_exit first Normal then filter (λ exit. not (same_exit Normal exit)) first ++ rest else first
+then_exits first rest = if has_exit first Normal then filter (λ exit. not (same_exit Normal exit)) first ++ rest else first
 
 -- the possible exits of statements, blocks and handlers; one may be named several times
 abbrev mutual
@@ -122,3 +115,9 @@ abbrev mutual
   pub handlers_exits : Program → Handlers → List Exit
   handlers_exits program NoMore = []
   handlers_exits program (Catch at handled body rest) = block_exits program body ++ handlers_exits program rest
+
+-- ---- a part of the rules, by which proofs speak of them
+
+-- the exceptions of an operator with this right operand
+abbrev pub operator_raises : Operator → Expression → List ℕ
+operator_raises operator e = if is_division operator then (if divisor_can_raise e then ARITH ∷ [] else []) else []

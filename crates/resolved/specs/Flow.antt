@@ -1,9 +1,9 @@
 -- Why a program is not labelled: the first demand with a written right side that does not hold under the least labelling, and a flow
 -- chain that ends there.
 -- Source: our own.
-use Rattle.std.specs.Prelude.{◌≡◌, ℕ, List, [], ◌∷◌, Option, Some, Contains, IsTrue}
+use Rattle.std.specs.Prelude.{◌≡◌, ℕ, List, [], ◌∷◌, Option, Some, Contains, IsTrue, IsFalse}
 use Rattle.principals.specs.ActsFor.{PrincipalHierarchy}
-use Rattle.labels.specs.Label.{ReaderPolicy, Label, Covers, flows}
+use Rattle.labels.specs.Label.{ReaderPolicy, Label, Covers, covers, flows}
 use Rattle.lattices.specs.Constraints.{Atom, Constraint, IsGathered, Written, Unknown, IsLeast, Occurs, first_unmet, Linked}
 use Rattle.labels.specs.LabelLattice.{label_lattice}
 use Rattle.resolved.specs.Program.{Program}
@@ -18,7 +18,7 @@ pub record IsFlowChain (program : Program) (policy : ReaderPolicy) (chain : List
   pub linked : Linked (program_demands program) (Written from) chain last
   pub to : Label
   pub right_is : last.right ≡ Written to
-  pub not_covered : ¬ Covers program.hierarchy to policy
+  pub not_covered : IsFalse (covers program.hierarchy to policy)
 
 -- the least labels of a program's locals and loops
 abbrev pub AreLeast : Program → (Unwritten → Label) → Type 0

@@ -6,7 +6,7 @@
 -- (in braces), and 13 the exits of a procedure.
 -- Source: our own rules; a label for each exit as in JFlow (Myers 1999), simple security and confinement after Volpano,
 -- Smith and Irvine 1996.
-use Rattle.std.specs.Prelude.{ℕ, suc, List, [], ◌∷◌, ◌++◌, Bool, true, false, not, map, flat_map, ◌==◌, ◌&&◌, if◌then◌else◌, Option, Some, None, unwrap_or}
+use Rattle.std.specs.Prelude.{ℕ, suc, List, [], ◌∷◌, ◌++◌, Bool, true, false, not, map, flat_map, ◌==◌, ◌&&◌, if◌then◌else◌, Option, Some, None, unwrap_or, option_map, find}
 use Rattle.principals.specs.ActsFor.{PrincipalHierarchy}
 use Rattle.labels.specs.Label.{Label}
 use Rattle.lattices.specs.Constraints.{Atom, Written, Unknown, Constraint, FitsAll, join_of, value}
@@ -19,21 +19,18 @@ use Rattle.resolved.specs.declared.target.Target.{Target}
 use Rattle.resolved.specs.declared.target.Target.TheVariants.{ToVariable, ToChannel, ToBegin, ToParameter, ToValue, ToEnd, ToThrown, ToLoop}
 use Rattle.resolved.specs.Tree.{Expression, Integer, Logical, Read, Element, Unary, Binary, Short, Statement, Assign, Clear, Store, Receive, Send, Call, If, While, Leave, ReturnWith, Try, Nested, Block, Empty, Then, Handlers, NoMore, Catch}
 use Rattle.resolved.specs.Program.{Program, ProcedureEntry, ResultEntry, ThrownEntry, channel_at, global_at, slot_at, procedure_at}
-use Rattle.resolved.specs.Exits.{same_exit, has_exit, one_exit, index_can_raise, divisor_can_raise, is_division, raises, thrown_exits, passes, statement_exits, block_exits}
+use Rattle.resolved.specs.Exits.{same_exit, has_exit, one_exit, leaves_loop, index_can_raise, divisor_can_raise, is_division, raises, thrown_exits, passes, statement_exits, block_exits}
 
 -- a label that is not written: of a local without a written one, or of a loop, each by the number of its procedure and its own
 pub data Unwritten : Type 0 where
   OfLocal : (procedure local : ℕ) → Unwritten
   OfLoop : (procedure loop : ℕ) → Unwritten
 
--- a label that is written, or one that is not; and the join of all in a list: the join of two joins is `++`, the least is `[]`
-abbrev pub LabelAtom : Type 0
-LabelAtom = Atom Unwritten Label
-
+-- the join of labels that are written or not: the join of two joins is `++`, the least is `[]`
 abbrev pub Join : Type 0
-Join = List LabelAtom
+Join = List (Atom Unwritten Label)
 
-abbrev pub one : LabelAtom → Join
+abbrev pub one : Atom Unwritten Label → Join
 one atom = atom ∷ []
 
 -- where a statement stands: its program and the number of its procedure
@@ -44,40 +41,24 @@ pub record Scope : Type 0 where
 abbrev pub here : Scope → ProcedureEntry
 here scope = procedure_at scope.program scope.number
 
--- a written label, or the other one
-abbrev pub written_or : Option Label → Unwritten → LabelAtom
-written_or (Some label) other = Written label
-written_or None other = Unknown other
-
--- the label of a procedure's value
-abbrev pub result_label : Option ResultEntry → Label
-result_label (Some entry) = entry.label
-result_label None = []
-
--- the label of an exception in a list of declared ones
-abbrev pub thrown_label : List ThrownEntry → (exception : ℕ) → Label
-thrown_label [] exception = []
-thrown_label (entry ∷ rest) exception =
-    if exception == entry.exception then entry.label else thrown_label rest exception
-
 -- the label of what stands on the right side of a demand; that of a parameter is always written
-abbrev pub label_of : Program → Target → LabelAtom
+abbrev pub label_of : Program → Target → Atom Unwritten Label
 label_of program (ToVariable f (Global n)) = Written (global_at program n).label
-label_of program (ToVariable f (Local n)) = written_or (slot_at (procedure_at program f) n).written (OfLocal f n)
+label_of program (ToVariable f (Local n)) =
+    unwrap_or (option_map (λ label. Written label) (slot_at (procedure_at program f) n).written) (Unknown (OfLocal f n))
 label_of program (ToChannel channel) = Written (channel_at program channel).label
 label_of program (ToBegin f) = Written (procedure_at program f).begin_label
 label_of program (ToParameter f i) = Written (unwrap_or (slot_at (procedure_at program f) i).written [])
-label_of program (ToValue f) = Written (result_label (procedure_at program f).result)
+label_of program (ToValue f) =
+    Written (unwrap_or (option_map (λ (entry : ResultEntry). entry.label) (procedure_at program f).result) [])
 label_of program (ToEnd f) = Written (procedure_at program f).end_label
-label_of program (ToThrown f exception) = Written (thrown_label (procedure_at program f).throws exception)
+label_of program (ToThrown f exception) = Written (unwrap_or (option_map (λ (entry : ThrownEntry). entry.label)
+    (find (λ (entry : ThrownEntry). exception == entry.exception) (procedure_at program f).throws)) [])
 label_of program (ToLoop f loop) = Unknown (OfLoop f loop)
 
--- the labels of variables and channels
+-- the label of a variable
 abbrev pub variable_label : Scope → Variable → Join
 variable_label scope x = one (label_of scope.program (ToVariable scope.number x))
-
-abbrev pub channel_label : Program → (channel : ℕ) → Label
-channel_label program channel = (channel_at program channel).label
 
 -- V: the label of an expression's value
 abbrev pub value_label : Scope → Expression → Join
@@ -129,14 +110,6 @@ call_exit_labels program callee q Break = q
 call_exit_labels program callee q Continue = q
 call_exit_labels program callee q (Throw exception) = q ++ one (label_of program (ToThrown callee exception))
 
--- X of a loop whose body is reached at b, by that of the body
-abbrev pub loop_exit_labels : (b : Join) → ExitLabels → ExitLabels
-loop_exit_labels b body Normal = b ++ body Break
-loop_exit_labels b body Return = body Return
-loop_exit_labels b body Break = []
-loop_exit_labels b body Continue = []
-loop_exit_labels b body (Throw exception) = body (Throw exception)
-
 -- a demand: what is on the left flows to the label of its target; with the first byte of its statement, and its rule
 abbrev pub Demand : Type 0
 Demand = Constraint Target Unwritten Label
@@ -165,8 +138,7 @@ pub record Judgement : Type 0 where
 -- two judgements together, on the exits of both: what the first demands comes before what the second does
 infixl 50 ◌&◌
 abbrev pub ◌&◌ : Judgement → Judgement → Judgement
-first & second =
-    record { exits = λ exit. first.exits exit ++ second.exits exit; demands = first.demands ++ second.demands }
+first & second = record { exits = λ exit. first.exits exit ++ second.exits exit; demands = first.demands ++ second.demands }
 
 -- a judgement without the labels of the exits that fail a test
 abbrev pub only_exits : (Exit → Bool) → Judgement → Judgement
@@ -207,12 +179,9 @@ abbrev mutual
       let q : Join = pc ++ flat_map (raise_label scope) arguments in
       let x : ExitLabels = call_exit_labels scope.program procedure q in
       let given : Join = x Normal ++ one (label_of scope.program (ToValue procedure)) in
-      record {
-        exits = x;
-        demands = demand scope.program at 6 q (ToBegin procedure)
-            ++ argument_demands scope at q procedure 0 arguments
-            ++ target_demand scope at 6 given target;
-      }
+      let asked : List Demand = demand scope.program at 6 q (ToBegin procedure) ++ argument_demands scope at q procedure 0 arguments
+      ++ target_demand scope at 6 given target in
+      record { exits = x; demands = asked }
   rule_of scope pc (If at e then_block else_block) =
       let q : Join = pc ++ raise_label scope e in
       let branch : Join = q ++ value_label scope e in
@@ -223,8 +192,8 @@ abbrev mutual
       let q : Join = one (label_of scope.program (ToLoop scope.number loop)) ++ raise_label scope e in
       let b : Join = q ++ value_label scope e in
       let inner : Judgement = whole scope b body (rule_of_block scope b body) in
-      record {
-        exits = λ exit. (raising e q).exits exit ++ loop_exit_labels b inner.exits exit;
+      raising e q & record {
+        exits = λ exit. if leaves_loop exit then inner.exits exit else label_if (same_exit Normal exit) (b ++ inner.exits Break);
         demands = to_loop pc ++ inner.demands ++ to_loop (inner.exits Normal ++ inner.exits Continue);
       }
   rule_of scope pc (Leave at taken) = record { exits = λ exit. pc; demands = [] }
@@ -248,19 +217,11 @@ abbrev mutual
       let pc : Join = x (Throw handled) in
       whole scope pc body (rule_of_block scope pc body) & rule_of_handlers scope x rest
 
--- for a procedure, normal and return are one exit
-abbrev pub as_one_exit : Exit → Exit
-as_one_exit Normal = Normal
-as_one_exit Return = Normal
-as_one_exit Break = Break
-as_one_exit Continue = Continue
-as_one_exit (Throw exception) = Throw exception
-
--- 13: the demands on the exits of a procedure's body, where it has more than one: on its normal exit and its return, then on each
--- exception in the order in which they are declared, all at the procedure's name
+-- 13: the demands on the exits of a procedure's body, where it has more than one, its normal exit and its return being one: on these
+-- two, then on each exception in the order in which they are declared, all at the procedure's name
 abbrev pub exit_demands : Scope → (exits : List Exit) → ExitLabels → List Demand
 exit_demands scope exits x =
-    if one_exit (map as_one_exit exits) then []
+    if one_exit (map (λ exit. if same_exit Return exit then Normal else exit) exits) then []
     else (demand scope.program (here scope).at 13 (x Normal ++ x Return) (ToEnd scope.number)
     ++ flat_map (λ (entry : ThrownEntry). demand scope.program (here scope).at 13 (x (Throw entry.exception)) (ToThrown scope.number entry.exception))
     (here scope).throws)
@@ -282,22 +243,49 @@ demands_from program f (procedure ∷ rest) =
 abbrev pub program_demands : Program → List Demand
 program_demands program = demands_from program 0 program.procedures
 
--- a labelling: a label for each that is not written
+-- a labelled program: all that it demands holds under some labelling, which gives each label that is not written
+abbrev pub Labelled : Program → Type 0
+Labelled program = (labelling : Unwritten → Label) × FitsAll (label_lattice program.hierarchy) (program_demands program) labelling
+
+-- ---- the parts of the rules, by which proofs speak of them
+
+-- a label that is written, or one that is not; and the written one, or else the other
+abbrev pub LabelAtom : Type 0
+LabelAtom = Atom Unwritten Label
+
+abbrev pub written_or : Option Label → Unwritten → LabelAtom
+written_or written other = unwrap_or (option_map (λ label. Written label) written) (Unknown other)
+
+-- the label of an exception among declared ones
+abbrev pub thrown_label : List ThrownEntry → (exception : ℕ) → Label
+thrown_label entries exception = unwrap_or (option_map (λ (entry : ThrownEntry). entry.label)
+    (find (λ (entry : ThrownEntry). exception == entry.exception) entries)) []
+
+-- the label of a procedure's value
+abbrev pub result_label : Option ResultEntry → Label
+result_label result = unwrap_or (option_map (λ (entry : ResultEntry). entry.label) result) []
+
+-- X of a loop whose body is reached at b, by that of the body
+abbrev pub loop_exit_labels : (b : Join) → ExitLabels → ExitLabels
+loop_exit_labels b body exit = if leaves_loop exit then body exit else label_if (same_exit Normal exit) (b ++ body Break)
+
+-- for a procedure, normal and return are one exit
+abbrev pub as_one_exit : Exit → Exit
+as_one_exit exit = if same_exit Return exit then Normal else exit
+
+-- the label of a channel
+abbrev pub channel_label : Program → (channel : ℕ) → Label
+channel_label program channel = (channel_at program channel).label
+
+-- a labelling: a label for each that is not written; and what a label and a join are under it
 abbrev pub Labelling : Type 0
 Labelling = Unwritten → Label
 
--- what a label and a join are under a labelling
 abbrev pub label_under : Labelling → LabelAtom → Label
 label_under labelling atom = value labelling atom
 
 abbrev pub join_under : Labelling → Join → Label
 join_under labelling join = join_of (λ a b. a ++ b) [] labelling join
-
--- a labelled program: all that it demands holds under some labelling
-abbrev pub Labelled : Program → Type 0
-Labelled program = (labelling : Labelling) × FitsAll (label_lattice program.hierarchy) (program_demands program) labelling
-
--- ---- the parts of the rules, by which proofs speak of them
 
 -- demands that hold under a labelling
 abbrev pub FitsDemands : PrincipalHierarchy → Labelling → List Demand → Type 0

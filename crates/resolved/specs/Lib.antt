@@ -9,6 +9,7 @@ pub mod BitUse
 pub mod Exits
 pub mod RefusalKinds
 pub mod ExitFaults
+pub mod FaultParts
 pub mod Labelled
 pub mod Isolated
 pub mod TreeOf

@@ -2,10 +2,11 @@
 -- has sent.
 -- Source: our own; a big-step meaning with fuel, as textbooks give it for programs that may not end.
 use Rattle.common.specs.Functions.{updated}
-use Rattle.std.specs.Prelude.{ℕ, zero, suc, List, [], ◌∷◌, ◌++◌, ℤ, ◌==◌, if◌then◌else◌, Option, Some, None, replicate, slice_get}
+use Rattle.std.specs.Prelude.{ℕ, zero, suc, List, [], ◌∷◌, ◌++◌, ℤ, ◌==◌, if◌then◌else◌, Option, Some, None, map, replicate, slice_get, slice_set, unwrap_or, option_map}
 use Rattle.common.specs.declared.limits.TheConstants.{MAX_FRAMES}
 use Rattle.common.specs.declared.sent.Pair.{Pair}
 use Rattle.resolved.specs.declared.expression.Variable.{Variable}
+use Rattle.resolved.specs.declared.expression.Variable.TheVariants.{Local}
 use Rattle.resolved.specs.declared.expression.Value.{Value}
 use Rattle.resolved.specs.declared.expression.Value.TheVariants.{Number}
 use Rattle.resolved.specs.declared.statement.Exit.{Exit}
@@ -13,9 +14,10 @@ use Rattle.resolved.specs.declared.statement.Exit.TheVariants.{Normal, Return, B
 use Rattle.common.specs.declared.direction.Direction.{Direction}
 use Rattle.common.specs.declared.direction.Direction.TheVariants.{Input, Output}
 use Rattle.resolved.specs.Tree.{Statement, Assign, Clear, Store, Receive, Send, Call, If, While, Leave, ReturnWith, Try, Nested, Block, Empty, Then, Handlers, NoMore, Catch}
-use Rattle.resolved.specs.Program.{Program, ChannelEntry, GlobalEntry, SlotEntry, ProcedureEntry, procedure_at}
-use Rattle.resolved.specs.Value.{Evaluated, Yields, Raises, number_in, truth_in, zero_value, checked_index}
-use Rattle.resolved.specs.SourceState.{World, SourceState, assigned, stored, cleared, value_of, values_of}
+use Rattle.resolved.specs.Program.{Program, GlobalEntry, SlotEntry, ProcedureEntry, channel_at, procedure_at}
+use Rattle.resolved.specs.WellFormed.{cell_count}
+use Rattle.resolved.specs.Value.{Evaluated, Yields, Raises, number_in, truth_in, zero_value, base_of, checked_index}
+use Rattle.resolved.specs.SourceState.{World, SourceState, cells, with_cells, value_of, values_of}
 use Rattle.common.specs.declared.exceptions.TheConstants.{END}
 
 -- why a run stops before its end: a call beyond the frames that there may be, or a loop that would make one round more than the
@@ -36,10 +38,10 @@ normally s = Ended Normal None s
 abbrev pub thrown : (exception : ℕ) → SourceState → Outcome
 thrown exception s = Ended (Throw exception) None s
 
--- goes on after a normal exit; every other exit stays
-abbrev pub after : Outcome → (SourceState → Outcome) → Outcome
-after (Ended Normal returned s) next = next s
-after other next = other
+-- goes on after a normal exit, with the value that a call has returned; every other exit stays
+abbrev pub onward : Outcome → (Option Value → SourceState → Outcome) → Outcome
+onward (Ended Normal returned s) next = next returned s
+onward other next = other
 
 -- goes on with what was evaluated; an exception is the exit
 abbrev pub evaluated : {A : Type 0} → Evaluated A → SourceState → (A → Outcome) → Outcome
@@ -57,8 +59,7 @@ looped other again = other
 -- a loop of at most k rounds, by the value of its condition and by what its body does; where the condition is true once more,
 -- the run is out of fuel
 abbrev pub fuel : (k : ℕ) → (SourceState → Evaluated Value) → (SourceState → Outcome) → SourceState → Outcome
-fuel zero condition body s =
-    evaluated (condition s) s (λ v. if truth_in v then Stopped OutOfFuel s else normally s)
+fuel zero condition body s = evaluated (condition s) s (λ v. if truth_in v then Stopped OutOfFuel s else normally s)
 fuel (suc k) condition body s =
     evaluated (condition s) s (λ v. if truth_in v then looped (body s) (fuel k condition body) else normally s)
 
@@ -72,7 +73,7 @@ caught other handle = other
 abbrev pub given_to : Option Variable → Option Value → SourceState → SourceState
 given_to None returned s = s
 given_to (Some x) None s = s
-given_to (Some x) (Some v) s = assigned s x v
+given_to (Some x) (Some v) s = with_cells s x (v ∷ [])
 
 -- takes the next number of an input, or raises `End`
 abbrev pub received : List ℤ → (channel : ℕ) → Option Variable → SourceState → Outcome
@@ -80,20 +81,11 @@ received [] channel target s = thrown END s
 received (z ∷ rest) channel target s =
     normally (given_to target (Some (Number z)) (record s { inputs = updated s.inputs channel rest }))
 
--- adds a pair to what was sent
-abbrev pub sending : (channel : ℕ) → Value → SourceState → SourceState
-sending channel v s = record s { sent = s.sent ++ (record { channel = channel; number = number_in v } ∷ []) }
-
 -- what a call comes to by what the procedure's body does: a return is the normal exit of the call, and the caller has its frame again
 abbrev pub leaving : (SourceState → SourceState) → Outcome → Outcome
 leaving back (Ended Return returned s) = Ended Normal returned (back s)
 leaving back (Ended exit returned s) = Ended exit returned (back s)
 leaving back (Stopped stop s) = Stopped stop (back s)
-
--- the value of a call goes to its target; every other exit than the normal one stays
-abbrev pub returned_to : Option Variable → Outcome → Outcome
-returned_to target (Ended Normal returned s) = normally (given_to target returned s)
-returned_to target other = other
 
 -- what the call of a procedure with these arguments does
 abbrev pub Calls : Type 0
@@ -103,27 +95,27 @@ Calls = (procedure : ℕ) → List Value → SourceState → Outcome
 -- time the loop is reached
 abbrev mutual
   pub statement_meaning : Calls → (k : ℕ) → Statement → SourceState → Outcome
-  statement_meaning calls k (Assign at x e) s =
-      evaluated (value_of s e) s (λ v. normally (assigned s x v))
-  statement_meaning calls k (Clear at slot) s = normally (cleared s slot)
+  statement_meaning calls k (Assign at x e) s = evaluated (value_of s e) s (λ v. normally (with_cells s x (v ∷ [])))
+  statement_meaning calls k (Clear at slot) s =
+      normally (with_cells s (Local slot) (map (λ v. zero_value (base_of v)) (s.locals slot)))
   statement_meaning calls k (Store at array length index e) s =
       evaluated (value_of s index) s (λ v.
       evaluated (value_of s e) s (λ w.
       evaluated (checked_index v length) s (λ i.
-      normally (stored s array i w))))
+      normally (with_cells s array (slice_set (cells s array) i w)))))
   statement_meaning calls k (Receive at channel target) s = received (s.inputs channel) channel target s
   statement_meaning calls k (Send at channel e) s =
-      evaluated (value_of s e) s (λ v. normally (sending channel v s))
+      evaluated (value_of s e) s (λ v.
+      normally (record s { sent = s.sent ++ (record { channel = channel; number = number_in v } ∷ []) }))
   statement_meaning calls k (Call at procedure arguments target) s =
-      evaluated (values_of s arguments) s (λ vs. returned_to target (calls procedure vs s))
+      evaluated (values_of s arguments) s (λ vs. onward (calls procedure vs s) (λ returned t. normally (given_to target returned t)))
   statement_meaning calls k (If at e then_block else_block) s =
       evaluated (value_of s e) s (λ v.
       if truth_in v then block_meaning calls k then_block s else block_meaning calls k else_block s)
   statement_meaning calls k (While at loop e body) s = fuel k (λ t. value_of t e) (block_meaning calls k body) s
   statement_meaning calls k (Leave at exit) s = Ended exit None s
   statement_meaning calls k (ReturnWith at None) s = Ended Return None s
-  statement_meaning calls k (ReturnWith at (Some e)) s =
-      evaluated (value_of s e) s (λ v. Ended Return (Some v) s)
+  statement_meaning calls k (ReturnWith at (Some e)) s = evaluated (value_of s e) s (λ v. Ended Return (Some v) s)
   statement_meaning calls k (Try at block handlers) s =
       caught (block_meaning calls k block s) (handlers_meaning calls k handlers)
   statement_meaning calls k (Nested at block) s = block_meaning calls k block s
@@ -131,7 +123,7 @@ abbrev mutual
   pub block_meaning : Calls → (k : ℕ) → Block → SourceState → Outcome
   block_meaning calls k Empty s = normally s
   block_meaning calls k (Then statement rest) s =
-      after (statement_meaning calls k statement s) (block_meaning calls k rest)
+      onward (statement_meaning calls k statement s) (λ returned. block_meaning calls k rest)
 
   -- the first handler of the exception; without one it goes on
   pub handlers_meaning : Calls → (k : ℕ) → Handlers → (exception : ℕ) → SourceState → Outcome
@@ -139,52 +131,32 @@ abbrev mutual
   handlers_meaning calls k (Catch at handled body rest) exception s =
       if exception == handled then block_meaning calls k body s else handlers_meaning calls k rest exception s
 
--- the cells of a variable at first: one for a scalar, and one for each element of an array
-abbrev pub cells_of : Option ℕ → Value → List Value
-cells_of None v = v ∷ []
-cells_of (Some length) v = replicate length v
-
 -- the cells of a slot of a new frame: the argument of a parameter, and 0 or `false` of a local
 abbrev pub first_cells_of_slots : Option SlotEntry → Option Value → List Value
 first_cells_of_slots None argument = []
 first_cells_of_slots (Some slot) (Some v) = v ∷ []
-first_cells_of_slots (Some slot) None = cells_of slot.size (zero_value slot.base)
+first_cells_of_slots (Some slot) None = replicate (cell_count slot.size) (zero_value slot.base)
 
-abbrev pub frame_of : List SlotEntry → List Value → ℕ → List Value
-frame_of slots arguments n = first_cells_of_slots (slice_get slots n) (slice_get arguments n)
-
--- the state at the begin of a call: the frame is new
-abbrev pub entering : ProcedureEntry → List Value → SourceState → SourceState
-entering callee arguments s = record s { locals = frame_of callee.slots arguments }
-
--- the calls of a program where this many more frames may be made; a call beyond them is deep
+-- the calls of a program where this many more frames may be made, each of which is new; a call beyond them is deep
 abbrev pub calls_with : Program → (k frames : ℕ) → Calls
 calls_with program k zero procedure arguments s = Stopped Deep s
 calls_with program k (suc frames) procedure arguments s =
     leaving (λ t. record t { locals = s.locals })
     (block_meaning (calls_with program k frames) k (procedure_at program procedure).body
-    (entering (procedure_at program procedure) arguments s))
-
--- the cells of a global at first: its first value, or 0 or `false` in each element
-abbrev pub first_cells_of_globals : Option GlobalEntry → List Value
-first_cells_of_globals None = []
-first_cells_of_globals (Some entry) = cells_of entry.size entry.first
+    (record s { locals = λ n. first_cells_of_slots (slice_get (procedure_at program procedure).slots n) (slice_get arguments n) }))
 
 abbrev pub numbers_by : Direction → List ℤ → List ℤ
 numbers_by Input numbers = numbers
 numbers_by Output numbers = []
 
--- the numbers of a channel at first: those of the world if it is an input
-abbrev pub channel_numbers : Option ChannelEntry → List ℤ → List ℤ
-channel_numbers None numbers = []
-channel_numbers (Some entry) numbers = numbers_by entry.direction numbers
-
--- the state in which a run begins
+-- the state in which a run begins: each global has its first value, an array in each element, and an input has the numbers of the
+-- world
 abbrev pub first_state : Program → World → SourceState
 first_state program world = record {
-  globals = λ n. first_cells_of_globals (slice_get program.globals n);
+  globals = λ n.
+      unwrap_or (option_map (λ (entry : GlobalEntry). replicate (cell_count entry.size) entry.first) (slice_get program.globals n)) [];
   locals = λ n. [];
-  inputs = λ channel. channel_numbers (slice_get program.channels channel) (world channel);
+  inputs = λ channel. numbers_by (channel_at program channel).direction (world channel);
   sent = [];
 }
 
@@ -204,3 +176,30 @@ state_after (Stopped stop s) = s
 -- what a program has sent
 abbrev pub sent_by : Program → World → (k : ℕ) → List Pair
 sent_by program world k = (state_after (run_within frame_limit program world k)).sent
+
+-- ---- parts, by which proofs speak of them
+
+-- goes on after a normal exit, and gives the value of a call to its target
+abbrev pub after : Outcome → (SourceState → Outcome) → Outcome
+after outcome next = onward outcome (λ returned. next)
+
+abbrev pub returned_to : Option Variable → Outcome → Outcome
+returned_to target outcome = onward outcome (λ returned s. normally (given_to target returned s))
+
+-- adds a pair to what was sent
+abbrev pub sending : (channel : ℕ) → Value → SourceState → SourceState
+sending channel v s = record s { sent = s.sent ++ (record { channel = channel; number = number_in v } ∷ []) }
+
+-- the cells of a new frame, and the state at the begin of a call
+abbrev pub frame_of : List SlotEntry → List Value → ℕ → List Value
+frame_of slots arguments n = first_cells_of_slots (slice_get slots n) (slice_get arguments n)
+
+abbrev pub entering : ProcedureEntry → List Value → SourceState → SourceState
+entering callee arguments s = record s { locals = frame_of callee.slots arguments }
+
+-- the cells of a variable at first, and those of a global
+abbrev pub cells_of : Option ℕ → Value → List Value
+cells_of size v = replicate (cell_count size) v
+
+abbrev pub first_cells_of_globals : Option GlobalEntry → List Value
+first_cells_of_globals found = unwrap_or (option_map (λ (entry : GlobalEntry). replicate (cell_count entry.size) entry.first) found) []

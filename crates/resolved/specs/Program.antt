@@ -70,28 +70,25 @@ pub record Program : Type 0 where
 
 -- what stands in a table under a number; one that is not there, as in no well-formed program, reads as an empty entry
 abbrev pub channel_at : Program → ℕ → ChannelEntry
-channel_at program channel =
-    slice_index_or program.channels channel (record { direction = Output; name = []; label = [] })
+channel_at program channel = slice_index_or program.channels channel (record { direction = Output; name = []; label = [] })
 
 abbrev pub global_at : Program → ℕ → GlobalEntry
 global_at program n =
     slice_index_or program.globals n (record { name = []; base = Int; size = None; label = []; first = Number (pos 0) })
 
 abbrev pub slot_at : ProcedureEntry → ℕ → SlotEntry
-slot_at procedure n =
-    slice_index_or procedure.slots n (record { base = Int; size = None; written = None; at = 0; name = [] })
+slot_at procedure n = slice_index_or procedure.slots n (record { base = Int; size = None; written = None; at = 0; name = [] })
 
 abbrev pub procedure_at : Program → ℕ → ProcedureEntry
-procedure_at program f =
-    slice_index_or program.procedures f (record {
-      at = 0;
-      name = [];
-      result = None;
-      begin_label = [];
-      end_label = [];
-      throws = [];
-      parameters = 0;
-      slots = [];
-      loops = 0;
-      body = Empty;
-    })
+procedure_at program f = slice_index_or program.procedures f (record {
+  at = 0;
+  name = [];
+  result = None;
+  begin_label = [];
+  end_label = [];
+  throws = [];
+  parameters = 0;
+  slots = [];
+  loops = 0;
+  body = Empty;
+})

@@ -35,17 +35,6 @@ with_cells s (Local n) values = record s { locals = updated s.locals n values }
 abbrev pub cell_at : List Value → ℕ → Value
 cell_at values i = slice_index_or values i (Number (pos 0))
 
--- a state in which a scalar has another value, and one in which an element has
-abbrev pub assigned : SourceState → Variable → Value → SourceState
-assigned s x v = with_cells s x (v ∷ [])
-
-abbrev pub stored : SourceState → Variable → ℕ → Value → SourceState
-stored s array i v = with_cells s array (slice_set (cells s array) i v)
-
--- a state in which all elements of a local array are 0 or `false`
-abbrev pub cleared : SourceState → ℕ → SourceState
-cleared s slot = with_cells s (Local slot) (map (λ v. zero_value (base_of v)) (s.locals slot))
-
 -- the value of an expression, or the exception of the first part that raises one, left operands first
 abbrev pub value_of : SourceState → Expression → Evaluated Value
 value_of s (Integer n) = Yields (Number (literal_number n))
@@ -60,8 +49,7 @@ value_of s (Binary operator d e) =
     then_with (value_of s d) (λ v.
     then_with (value_of s e) (λ w.
     operator_value operator v w))
-value_of s (Short connective d e) =
-    then_with (value_of s d) (λ v. if decides connective v then Yields v else value_of s e)
+value_of s (Short connective d e) = then_with (value_of s d) (λ v. if decides connective v then Yields v else value_of s e)
 
 -- the values of arguments, from the left
 abbrev pub values_of : SourceState → List Expression → Evaluated (List Value)
@@ -70,3 +58,16 @@ values_of s (e ∷ rest) =
     then_with (value_of s e) (λ v.
     then_with (values_of s rest) (λ vs.
     Yields (v ∷ vs)))
+
+-- ---- parts of the meaning of statements, by which proofs speak of them
+
+-- a state in which a scalar has another value, and one in which an element has
+abbrev pub assigned : SourceState → Variable → Value → SourceState
+assigned s x v = with_cells s x (v ∷ [])
+
+abbrev pub stored : SourceState → Variable → ℕ → Value → SourceState
+stored s array i v = with_cells s array (slice_set (cells s array) i v)
+
+-- a state in which all elements of a local array are 0 or `false`
+abbrev pub cleared : SourceState → ℕ → SourceState
+cleared s slot = with_cells s (Local slot) (map (λ v. zero_value (base_of v)) (s.locals slot))

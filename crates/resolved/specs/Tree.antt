@@ -50,18 +50,3 @@ mutual
   pub data Handlers : Type 0 where
     NoMore : Handlers
     Catch : (at exception : ℕ) (body : Block) → Handlers → Handlers
-
--- where a statement begins
-abbrev pub place_of : Statement → ℕ
-place_of (Assign at x e) = at
-place_of (Clear at slot) = at
-place_of (Store at array length index value) = at
-place_of (Receive at channel target) = at
-place_of (Send at channel e) = at
-place_of (Call at procedure arguments target) = at
-place_of (If at e then_block else_block) = at
-place_of (While at loop e body) = at
-place_of (Leave at exit) = at
-place_of (ReturnWith at e) = at
-place_of (Try at block handlers) = at
-place_of (Nested at block) = at

@@ -2,7 +2,7 @@
 -- Source: our own language; whole numbers reduced to 32 bits, with division toward zero.
 use Rattle.common.specs.Bits.{bits_and, bits_or, bits_xor, shifted_left, shifted_right, shifted_right_unsigned}
 use Rattle.common.specs.Functions.{same_truth}
-use Rattle.std.specs.Prelude.{ℕ, Bool, false, not, ℤ, pos, negsuc, ◌+ℤ◌, ◌-ℤ◌, ◌*ℤ◌, neg_ℤ, int_lt, int_le, int_div, int_rem, nat_lt, if◌then◌else◌}
+use Rattle.std.specs.Prelude.{ℕ, Bool, false, not, ℤ, pos, negsuc, ◌+ℤ◌, ◌-ℤ◌, ◌*ℤ◌, neg_ℤ, nat_abs, int_lt, int_le, int_div, int_rem, nat_lt, if◌then◌else◌}
 use Rattle.common.specs.declared.exceptions.TheConstants.{ARITH, BOUNDS}
 use Rattle.std.specs.Int.{int_wrap}
 use Rattle.std.specs.Ordering.{int_eq}
@@ -101,12 +101,6 @@ abbrev pub in_range : ℤ → ℕ → Bool
 in_range (pos i) length = nat_lt i length
 in_range (negsuc i) length = false
 
--- an index as a position
-abbrev pub position_of : ℤ → ℕ
-position_of (pos i) = i
-position_of (negsuc i) = 0
-
 -- an index that is in range, or `Bounds`
 abbrev pub checked_index : Value → ℕ → Evaluated ℕ
-checked_index v length =
-    if in_range (number_in v) length then Yields (position_of (number_in v)) else Raises BOUNDS
+checked_index v length = if in_range (number_in v) length then Yields (nat_abs (number_in v)) else Raises BOUNDS

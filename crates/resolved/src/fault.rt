@@ -1,7 +1,8 @@
 //! What can be wrong with the exits of a program's statements, and the numbers and the words by which it is reported.
-ghost use Rattle.resolved.specs.RefusalKinds.{exit_refusal_number, exit_refusal_words};
-ghost use Rattle.std.specs.Prelude.{◌≡◌, Some};
+ghost use Rattle.resolved.specs.RefusalKinds.{exit_message};
+ghost use Rattle.std.specs.Prelude.{Some};
 
+use common::{Message, Reported};
 use std::error::Error;
 use std::fmt;
 
@@ -20,30 +21,16 @@ pub enum ExitRefusalKind {
     OutsideLoop,
 }
 
-impl ExitRefusalKind {
-    /// The number that the refusal is reported by, 501 to 505.
-    pub fn number(self) -> u32
-        ensures { result ≡ exit_refusal_number self }
-    {
-        match self {
-            ExitRefusalKind::Unreachable => 501,
-            ExitRefusalKind::NoValueReturned => 502,
-            ExitRefusalKind::Undeclared => 503,
-            ExitRefusalKind::NeverRaised => 504,
-            ExitRefusalKind::OutsideLoop => 505,
-        }
-    }
+impl Reported for ExitRefusalKind {
+    ghost contents = { exit_message };
 
-    /// The words that the refusal is reported by.
-    pub fn words(self) -> &'static str
-        ensures { result.now ≡ exit_refusal_words self }
-    {
+    fn message(&self) -> Message {
         match self {
-            ExitRefusalKind::Unreachable => "unreachable",
-            ExitRefusalKind::NoValueReturned => "no value returned",
-            ExitRefusalKind::Undeclared => "exception not declared",
-            ExitRefusalKind::NeverRaised => "never raised",
-            ExitRefusalKind::OutsideLoop => "not in a loop",
+            ExitRefusalKind::Unreachable => Message::new(501, "unreachable"),
+            ExitRefusalKind::NoValueReturned => Message::new(502, "no value returned"),
+            ExitRefusalKind::Undeclared => Message::new(503, "exception not declared"),
+            ExitRefusalKind::NeverRaised => Message::new(504, "never raised"),
+            ExitRefusalKind::OutsideLoop => Message::new(505, "not in a loop"),
         }
     }
 }
@@ -56,7 +43,7 @@ pub struct ExitRefusal {
 }
 
 impl fmt::Display for ExitRefusal {
-    ghost output = { λ refusal. Some (exit_refusal_words refusal.kind) };
+    ghost output = { λ refusal. Some (exit_message refusal.kind).words };
 
     fn fmt<W: fmt::Write>(&self, f: &mut fmt::Formatter<W>) -> fmt::Result {
         write!(f, "{}", self.kind.words())

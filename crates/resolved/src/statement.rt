@@ -1,6 +1,6 @@
 //! Statements and handlers.
 
-ghost use Rattle.resolved.specs.Tree.{place_of};
+ghost use Rattle.resolved.specs.FaultParts.{place_of};
 ghost use Rattle.resolved.specs.TreeOf.{statement_of};
 ghost use Rattle.std.specs.Prelude.{◌≡◌};
 

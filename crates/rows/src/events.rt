@@ -6,7 +6,7 @@ use crate::line::{number_of, words_of};
 use crate::texts::Texts;
 use bytecode::decode;
 use channels::World;
-use common::{OrNoMemory, Pair};
+use common::{Message, OrNoMemory, Pair, Reported};
 use flowc::{Answer, Event, HostFault, HostRefusal, LoadRefusal};
 use machine::Status;
 use principals::Hierarchy;
@@ -139,7 +139,7 @@ fn write_fault(alloc: Global, answer: &mut Vec<u8>, fault: HostFault) -> Result<
 
 // The offset in the bytes, where the refusal has one, its number, and its words.
 fn line_of(alloc: Global, refusal: HostRefusal) -> Result<String, AllocError> {
-    let (number, words) = (refusal.number(), refusal.words());
+    let Message { number, words } = refusal.message();
     match refusal {
         HostRefusal::Load(LoadRefusal::Bytes(found)) => {
             let offset = found.offset;

@@ -4,7 +4,7 @@ pub mod Candidates
 pub mod Chains
 pub mod Comparing
 pub mod Counting
-pub mod EdgePlaces
+pub mod EdgeCursors
 pub mod Filling
 pub mod Firsts
 pub mod LabelValues

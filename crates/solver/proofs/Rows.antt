@@ -1,8 +1,8 @@
 -- The edges of links that are put together, and those of parts that no link has.
-use Rattle.std.proofs.Common.{◌≡◌, refl, sym, ap, ◌∙◌, ℕ, suc, ◌<◌, ◌≤◌, ◌+◌, length, get_or, List, [], ◌∷◌, ◌++◌, Bool, true, false, nat_eq, arith, take, drop, add-zero, zero-add, append_assoc, append-nil}
+use Rattle.std.proofs.Common.{◌≡◌, refl, sym, ap, ◌∙◌, ℕ, suc, ◌<◌, ◌≤◌, ◌+◌, length, get_or, List, [], ◌∷◌, ◌++◌, Bool, true, false, nat_eq, arith, take, add-zero, zero-add, append_assoc, append-nil}
 use Rattle.std.specs.Prelude.{All}
 use Rattle.std.proofs.lemmas.Bool.{eqb-true}
-use Rattle.std.proofs.lemmas.List.{take_more, drop_more, length-take-le}
+use Rattle.std.proofs.lemmas.List.{take_more, length-take-le}
 use Rattle.solver.specs.Links.{InRange, IsBelow, Link, edges_at, link, left_links, links_of, same}
 use Rattle.solver.specs.Looks.{count_of}
 use Rattle.solver.specs.declared.edges.Edge.{Edge}
@@ -48,12 +48,6 @@ links_of-more {T} cs i c h =
     ∙ (links_of-append 0 (take i cs) (last ∷ [])
     ∙ (ap (λ n. links_of 0 (take i cs) ++ links_of n (last ∷ [])) len
     ∙ ap (λ x. links_of 0 (take i cs) ++ x) (append-nil (left_links i last.right last.left.items))))
-
-pub links_of-first : {T : Type 0} (cs : List (Constraint T)) (i : ℕ) (c : Constraint T) → i < length cs →
-    links_of i (drop i cs) ≡ left_links i (get_or cs i c).right (get_or cs i c).left.items ++ links_of (i + 1) (drop (i + 1) cs)
-links_of-first {T} cs i c h =
-    let e : suc i ≡ i + 1 = omega arith in
-    ap (links_of i) (drop_more cs i c h) ∙ ap (λ n. left_links i (get_or cs i c).right (get_or cs i c).left.items ++ links_of n (drop (i + 1) cs)) e
 
 -- ---- how many edges a part has from one left side
 pub count-left : (from : Atom) (by : ℕ) (to : Atom) (left : List Atom) → length (edges_at from (left_links by to left)) ≡ count_of (same from) left

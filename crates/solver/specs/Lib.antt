@@ -1,7 +1,7 @@
 pub mod Breaker
 pub mod Broken
 pub mod Constraints
-pub mod EdgePlaces
+pub mod EdgeCursors
 pub mod EdgeRows
 pub mod Links
 pub mod Looks

@@ -1,5 +1,5 @@
 //! Where each part of a left side leads: the constraints in which it stands, with their right sides.
-ghost use Rattle.solver.specs.EdgePlaces.{AreCounted, AreFilled, AreFilledTo, MoreCounted, capped, end_from, starts_from};
+ghost use Rattle.solver.specs.EdgeCursors.{AreCounted, AreFilled, AreFilledTo, MoreCounted, capped, end_from, starts_from};
 ghost use Rattle.solver.specs.EdgeRows.{AreEnds, row_at, rows_from};
 ghost use Rattle.solver.specs.Links.{AreBelow, InRange, Link, edges_at, links_of};
 ghost use Rattle.solver.specs.Looks.{one};
@@ -99,8 +99,8 @@ pub fn edges_of<T>(
 {
     let counts = counts_of(alloc, constraints, written, unknowns)?;
     let mut filling = Filling {
-        written: places_of(alloc, counts.written)?,
-        unknown: places_of(alloc, counts.unknown)?,
+        written: cursors_of(alloc, counts.written)?,
+        unknown: cursors_of(alloc, counts.unknown)?,
     };
     for by in 0..constraints.len() {
         filling.add_left(constraints, by);
@@ -193,25 +193,25 @@ fn to_starts(counts: &mut Vec<usize>) -> usize
 // Rows that are filled: where the next edge from each part goes, and the list with room for each edge.
 #[derive(Drop)]
 struct FilledRows {
-    places: Vec<usize>,
+    cursors: Vec<usize>,
     list: Vec<Edge>,
 }
 
 // Rows with room for as many edges as they are to have.
-fn places_of(alloc: Global, counts: Vec<usize>) -> Result<FilledRows, AllocError>
+fn cursors_of(alloc: Global, counts: Vec<usize>) -> Result<FilledRows, AllocError>
     ensures empty { IfOk result (λ rows. (part : ℕ → AtomOf) (links : List Link) →
         AreCounted part links counts.items →
-        AreFilled part [] links rows.places.items rows.list.items) }
-    ensures count { IfOk result (λ rows. length rows.places.items ≡ length counts.items) }
+        AreFilled part [] links rows.cursors.items rows.list.items) }
+    ensures count { IfOk result (λ rows. length rows.cursors.items ≡ length counts.items) }
 {
-    let mut places = counts;
-    let end = to_starts(&mut places);
+    let mut cursors = counts;
+    let end = to_starts(&mut cursors);
     let nothing = Edge {
         by: 0,
         to: Atom::Written(0),
     };
     Ok(FilledRows {
-        places,
+        cursors,
         list: vec![in alloc; nothing; end]?,
     })
 }
@@ -219,26 +219,26 @@ fn places_of(alloc: Global, counts: Vec<usize>) -> Result<FilledRows, AllocError
 impl FilledRows {
     // Adds an edge from a part.
     fn add(&mut self, part: usize, edge: Edge)
-        requires part { part < length self.old.places.items }
-        requires place { slice_index_or self.old.places.items part 0
+        requires part { part < length self.old.cursors.items }
+        requires cursor { slice_index_or self.old.cursors.items part 0
             < length self.old.list.items }
-        ensures places { self.new.places.items ≡ set self.old.places.items part
-            (slice_index_or self.old.places.items part 0 + 1) }
+        ensures cursors { self.new.cursors.items ≡ set self.old.cursors.items part
+            (slice_index_or self.old.cursors.items part 0 + 1) }
         ensures list { self.new.list.items ≡ set self.old.list.items
-            (slice_index_or self.old.places.items part 0) edge }
+            (slice_index_or self.old.cursors.items part 0) edge }
     {
-        let place = self.places[part];
-        self.places[part] = place + 1;
-        self.list[place] = edge;
+        let cursor = self.cursors[part];
+        self.cursors[part] = cursor + 1;
+        self.list[cursor] = edge;
     }
 
     // The rows, once all are full: each ends where its next edge would go.
     fn end(self) -> EdgeRows
-        requires { AreEnds 0 self.places.items (length self.list.items) }
-        ensures { result ≡ rows_from 0 self.places.items self.list.items }
+        requires { AreEnds 0 self.cursors.items (length self.list.items) }
+        ensures { result ≡ rows_from 0 self.cursors.items self.list.items }
     {
         EdgeRows {
-            ends: self.places,
+            ends: self.cursors,
             list: self.list,
         }
     }
@@ -255,20 +255,20 @@ impl Filling {
     // Adds the edges of one more constraint.
     fn add_left<T>(&mut self, constraints: &[Constraint<T>], by: usize)
         requires by { by < length constraints.now }
-        requires range { InRange (length self.old.written.places.items)
-            (length self.old.unknown.places.items) constraints.now }
+        requires range { InRange (length self.old.written.cursors.items)
+            (length self.old.unknown.cursors.items) constraints.now }
         requires written { AreFilledTo Written constraints.now by
-            self.old.written.places.items self.old.written.list.items }
+            self.old.written.cursors.items self.old.written.list.items }
         requires unknown { AreFilledTo Unknown constraints.now by
-            self.old.unknown.places.items self.old.unknown.list.items }
+            self.old.unknown.cursors.items self.old.unknown.list.items }
         ensures written { AreFilledTo Written constraints.now (by + 1)
-            self.new.written.places.items self.new.written.list.items }
+            self.new.written.cursors.items self.new.written.list.items }
         ensures unknown { AreFilledTo Unknown constraints.now (by + 1)
-            self.new.unknown.places.items self.new.unknown.list.items }
-        ensures written_count { length self.new.written.places.items
-            ≡ length self.old.written.places.items }
-        ensures unknown_count { length self.new.unknown.places.items
-            ≡ length self.old.unknown.places.items }
+            self.new.unknown.cursors.items self.new.unknown.list.items }
+        ensures written_count { length self.new.written.cursors.items
+            ≡ length self.old.written.cursors.items }
+        ensures unknown_count { length self.new.unknown.cursors.items
+            ≡ length self.old.unknown.cursors.items }
     {
         let constraint = &constraints[by];
         let to = constraint.right;

@@ -2,7 +2,7 @@
 ghost use Rattle.solver.specs.Sharing.{AreForms, AreShared, IsKeptAs, MayBeKeptAs, bits_of, with_numbers};
 ghost use Rattle.labels.specs.Row.{Includes, has};
 ghost use Rattle.solver.specs.Work.{IsGrown};
-ghost use Rattle.std.specs.Prelude.{All, IfOk, IsTrue, OnOk, [], false, length, replicate, set, slice_index_or, ℕ, ◌<◌, ◌||◌, ◌≡◌, ◌≤◌};
+ghost use Rattle.std.specs.Prelude.{All, IfOk, IfSome, IsTrue, OnOk, [], false, length, replicate, set, slice_index_or, ℕ, ◌<◌, ◌||◌, ◌≡◌, ◌≤◌};
 
 use crate::constraints::Atom;
 use labels::Row;
@@ -264,6 +264,50 @@ fn kept_as(
     })
 }
 
+// Whether a row is the one with a number, which is kept whole.
+fn is_kept(kept: &[Kept], number: usize, row: &Row) -> bool
+    requires { number < length kept.now }
+    ensures { IsTrue result → bits_of kept.now number ≡ row.now }
+{
+    match &kept[number].form {
+        RowForm::Whole(own) => own.bound() == row.bound() && own.is_same(row),
+        RowForm::Beyond(_, _) => false,
+    }
+}
+
+// The number of the row of an unknown of a left side, if it has one and that is kept whole and the same as this.
+fn same_as_unknown(kept: &[Kept], of: &[usize], row: &Row, left: &[Atom]) -> Option<usize>
+    requires { AreShared kept.now of.now }
+    ensures number { IfSome result (λ number. number < length kept.now) }
+    ensures same { IfSome result (λ number. bits_of kept.now number ≡ row.now) }
+{
+    let unknown = last_unknown(left)?;
+    let number = *of.get(unknown)?;
+    if is_kept(kept, number, row) {
+        Some(number)
+    } else {
+        None
+    }
+}
+
+// The number of a row that is kept whole and is the same as this, if it is that of an unknown of a left side or the last one that was
+// kept. Along a flow most are, and so are those of locals that nothing flows to.
+fn same_as(kept: &[Kept], of: &[usize], row: &Row, left: &[Atom]) -> Option<usize>
+    requires { AreShared kept.now of.now }
+    ensures number { IfSome result (λ number. number < length kept.now) }
+    ensures same { IfSome result (λ number. bits_of kept.now number ≡ row.now) }
+{
+    if let Some(number) = same_as_unknown(kept, of, row, left) {
+        return Some(number);
+    }
+    let last = kept.len().checked_sub(1)?;
+    if is_kept(kept, last, row) {
+        Some(last)
+    } else {
+        None
+    }
+}
+
 impl SharedRows {
     /// This many empty rows, which will have numbers below a count.
     pub(crate) fn new(
@@ -273,8 +317,7 @@ impl SharedRows {
     ) -> Result<SharedRows, AllocError>
         ensures { IfOk result (λ rows. rows ≡ replicate unknowns []) }
     {
-        // Most unknowns get a row once.
-        let mut kept = Vec::with_capacity(alloc, unknowns.saturating_add(2))?;
+        let mut kept = Vec::new(alloc);
         let nothing = Row::new(alloc, 0)?;
         kept.push(Kept {
             steps: 0,
@@ -353,6 +396,10 @@ impl SharedRows {
         requires { unknown < length self.old }
         ensures { OnOk result (self.new ≡ set self.old unknown row) }
     {
+        if let Some(same) = same_as(self.kept.as_slice(), self.of.as_slice(), &row, left) {
+            self.of[unknown] = same;
+            return Ok(());
+        }
         let number = self.kept.len();
         let form = kept_as(
             alloc,

@@ -1,7 +1,7 @@
 -- Syntax trees as contracts see them: texts are lists of bytes, repetitions are lists, and a node lies nowhere in memory. After
 -- them the tree that each value of the code stands for.
 -- Source: the usual abstract syntax of a small imperative language with exceptions; that labels are written in it is of Myers 1999.
-use Rattle.std.specs.Prelude.{ℕ, Bool, List, [], ◌∷◌, map, Option, None, Some}
+use Rattle.std.specs.Prelude.{ℕ, Bool, List, [], ◌∷◌, map, Option, None, Some, unwrap_or, option_map}
 use Rattle.syntax.specs.declared.tree.Name.{Name}
 use Rattle.syntax.specs.declared.tree.Component.{Component}
 use Rattle.syntax.specs.declared.tree.Component.TheVariants as components
@@ -43,11 +43,6 @@ pub record NameTree : Type 0 where
 pub data ComponentTree : Type 0 where
   PolicyComponent : (owner : NameTree) (readers : List NameTree) → ComponentTree
   VariableComponent : NameTree → ComponentTree
-
--- a name with readers after it owns a policy, and one without them is that of a variable
-abbrev pub component_of : NameTree → Option (List NameTree) → ComponentTree
-component_of name None = VariableComponent name
-component_of name (Some readers) = PolicyComponent name readers
 
 pub record LabelTree : Type 0 where
   pub at : ℕ
@@ -203,6 +198,10 @@ item_at (ExceptionItem at name) = at
 item_at (GlobalItem global) = global.at
 item_at (ProcedureItem procedure) = procedure.at
 
+-- a name with readers after it owns a policy, and one without them is that of a variable
+abbrev pub component_of : NameTree → Option (List NameTree) → ComponentTree
+component_of name readers = unwrap_or (option_map (PolicyComponent name) readers) (VariableComponent name)
+
 -- The trees of the code's values.
 abbrev pub name_tree : Name → NameTree
 name_tree name = record { at = name.at; text = name.text.now }
@@ -244,8 +243,7 @@ size_tree size = record { at = size.at; size = size.size }
 
 -- with an `else` or without
 abbrev pub if_tree : (at : ℕ) → ExpressionTree → BlockTree → Option BlockTree → StatementTree
-if_tree at condition body None = IfTree at condition body
-if_tree at condition body (Some otherwise) = IfElseTree at condition body otherwise
+if_tree at condition body otherwise = unwrap_or (option_map (IfElseTree at condition body) otherwise) (IfTree at condition body)
 
 abbrev mutual
   pub statement_tree : Statement → StatementTree

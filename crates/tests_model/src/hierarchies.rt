@@ -23,7 +23,6 @@ fn the_laws_are_called(_rt: HostRuntime) {
     laws::acts_for_is_monotone();
     laws::names_are_names();
     laws::one_reading();
-    laws::unknown_principal_is_as_written();
 }
 
 #[test]

@@ -2,7 +2,7 @@
 
 use bytecode::FormatRefusal;
 use channels::WorldRefusalKind;
-use common::OrNoMemory;
+use common::{OrNoMemory, Reported};
 use host::{HostFault, HostRefusal};
 use machine::NewRefusal;
 use modules::FormatRefusalKind;

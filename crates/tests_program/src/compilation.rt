@@ -1,6 +1,6 @@
 //! Kinds of refusal by number and words, and a compilation whose growths are refused.
 
-use common::OrNoMemory;
+use common::{OrNoMemory, Reported};
 use flowc::{
     ExitRefusalKind, Fault, HierarchyRefusalKind, LexRefusalKind, ParseRefusalKind, RefusalKind,
     TypeRefusalKind, check_texts, compile,

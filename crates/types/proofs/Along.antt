@@ -14,7 +14,7 @@ use Rattle.types.specs.declared.body.BodyScope.{BodyScope}
 use Rattle.common.specs.Answers.{IfRefused}
 use Rattle.common.specs.declared.fault.OrNoMemory.{OrNoMemory}
 use Rattle.types.specs.declared.fault.TypeRefusal.{TypeRefusal}
-use Rattle.types.specs.Finding.{IsRefusalOf, Finding, along}
+use Rattle.types.specs.Finding.{IsRefusalOf, Finding}
 use Rattle.types.specs.Environment.{use_as, item_of}
 use Rattle.types.specs.Statements.{Point, statement_finding, block_finding, statements_finding, catches_finding}
 use Rattle.types.specs.Views.{and_then, IsLater, names_of, point_of, setting_of, taken}

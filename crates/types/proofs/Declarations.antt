@@ -16,7 +16,7 @@ use Rattle.types.specs.declared.scope.Meaning.{Meaning}
 use Rattle.types.specs.Finding.{IsRefusalOf, give}
 use Rattle.types.specs.Environment.{fresh_finding}
 use Rattle.types.specs.Labels.{LabelScope, optional_label_finding}
-use Rattle.types.specs.Statements.{Setting, Point, label_scope, with_local, assigned_finding, size_finding, declare_finding, declare_array_finding, slot_of}
+use Rattle.types.specs.Statements.{Setting, Point, label_scope, with_local, assigned_finding, size_finding, statement_finding, declare_finding, declare_array_finding, slot_of}
 use Rattle.types.specs.VariableEntries.{VariableEntries, LabelPolicies, optional_label_with}
 use Rattle.types.proofs.Loops.{then_ok, fails_later, fails_second}
 use Rattle.types.proofs.Tables.{ok_inside}
@@ -42,7 +42,7 @@ module _ (setting : Setting) (point : Point) (at : ℕ) (base : BaseType) (label
   pub array_declared : (after : Point) (slot : SlotEntry) (size : SizeTree) (cells : ℕ) → size_finding size ≡ Ok cells → slot ≡ slot_of at base written name.text (Some cells)
       → give (with_local point slot) ≡ give after
       → declare_array_finding setting point at base label name size ≡ Ok (after, Clear at number)
-  unfolding declare_array_finding
+  unfolding statement_finding
   array_declared after slot size cells sized entry declared =
       then_ok _ _ written written_is ∙ then_ok _ _ tt fresh_there ∙ then_ok _ _ cells sized
       ∙ ap (λ m. Ok (with_local point (slot_of at base written name.text (Some cells)), Clear at m)) (sym next)
@@ -53,7 +53,7 @@ module _ (setting : Setting) (point : Point) (at : ℕ) (base : BaseType) (label
   pub scalar_declared : (after : Point) (slot : SlotEntry) (value : RightTree) (statement : Statement) → assigned_finding setting.signatures point.names at (Local number) base value ≡ Ok statement
       → slot ≡ slot_of at base written name.text None → give (with_local point slot) ≡ give after
       → declare_finding setting point at base label name value ≡ Ok (after, statement)
-  unfolding declare_finding
+  unfolding statement_finding
   scalar_declared after slot value statement assigned entry declared =
       then_ok _ _ written written_is ∙ then_ok _ _ tt fresh_there
       ∙ then_ok _ _ statement (ap (λ m. assigned_finding setting.signatures point.names at (Local m) base value) (sym next) ∙ assigned)
@@ -62,7 +62,7 @@ module _ (setting : Setting) (point : Point) (at : ℕ) (base : BaseType) (label
 
   pub scalar_refused : (value : RightTree) (fault : OrNoMemory TypeRefusal) → IfRefused (IsRefusalOf (assigned_finding setting.signatures point.names at (Local number) base value)) fault
       → IfRefused (IsRefusalOf (declare_finding setting point at base label name value)) fault
-  unfolding declare_finding
+  unfolding statement_finding
   scalar_refused value fault wrong =
       fails_second _ _ written fault written_is
       (fails_second _ _ tt fault fresh_there

@@ -19,6 +19,7 @@ mod ShortNames
 mod ReadBodies
 mod ReadExpressions
 mod Tables
+mod Uses
 mod WellFormedExpressions
 mod WellFormedLabels
 mod WellFormedProcedures

@@ -28,7 +28,7 @@ use Rattle.types.specs.ReadBack.{NameScope, top_scope, with_declared, leaving_bl
 use Rattle.types.proofs.ItemNames.{channel_name, global_name, channel_named, global_named}
 use Rattle.types.proofs.NamedMeanings.{finds_itself}
 use Rattle.types.proofs.Passing.{then_finds, if_finds, any_finds, finds_for_all}
-use Rattle.types.proofs.ReadExpressions.{Agrees, IsMeaning, same_scope, agrees_declaring, scalar_reads, array_reads, input_reads, output_reads, exception_reads, expression_reads, typed_reads, call_reads, right_reads}
+use Rattle.types.proofs.ReadExpressions.{Agrees, IsMeaning, same_scope, agrees_declaring, scalar_reads, array_reads, item_reads, expression_reads, typed_reads, call_reads, right_reads}
 
 -- the names of entries, with one more
 name_pushed : {X : Type 0} (name : X → List ℕ) (entries : List X) (entry : X) (text : List ℕ) (more : List (List ℕ)) → name entry ≡ text
@@ -112,7 +112,7 @@ module _ (program : Program) where
   declare_reads : (setting : Setting) (scope : NameScope) (point : Point) (at : ℕ) (base : _) (label : Option LabelTree) (name : NameTree) (right : RightTree)
       → Matches scope point
       → IfOk (declare_finding setting point at base label name right) (StatementRead scope (DeclareTree at base label name right))
-  unfolding declare_finding
+  unfolding statement_finding
   declare_reads setting scope point at base label name right matches =
       let target = Local (length point.slots) in
       then_finds (optional_label_finding (label_scope setting point) label) _ (λ one. Unit {0}) _ (any_finds (optional_label_finding (label_scope setting point) label)) (λ written nothing.
@@ -128,7 +128,7 @@ module _ (program : Program) where
   declare_array_reads : (setting : Setting) (scope : NameScope) (point : Point) (at : ℕ) (base : _) (label : Option LabelTree) (name : NameTree) (size : SizeTree)
       → Matches scope point
       → IfOk (declare_array_finding setting point at base label name size) (StatementRead scope (DeclareArrayTree at base label name size))
-  unfolding declare_array_finding
+  unfolding statement_finding
   declare_array_reads setting scope point at base label name size matches =
       let target = Local (length point.slots) in
       then_finds (optional_label_finding (label_scope setting point) label) _ (λ one. Unit {0}) _ (any_finds (optional_label_finding (label_scope setting point) label)) (λ written nothing.
@@ -173,11 +173,11 @@ module _ (program : Program) where
           (λ made parts. record { after = scope; reads = ReadCall parts.0 parts.1; matches = matches })
       statement_reads scope point (ReceiveTree at channel) matches =
           then_finds (use_as (item_of (Channel directions.Input)) (point.names channel.text) channel.at) _ (IsChannel program scope channel) _
-          (input_reads program scope point.names matches.agrees channel)
+          (item_reads program scope point.names matches.agrees (Channel directions.Input) channel)
           (λ number is. record { after = scope; reads = ReadReceive is; matches = matches })
       statement_reads scope point (SendTree at channel value) matches =
           then_finds (use_as (item_of (Channel directions.Output)) (point.names channel.text) channel.at) _ (IsChannel program scope channel) _
-          (output_reads program scope point.names matches.agrees channel) (λ number is.
+          (item_reads program scope point.names matches.agrees (Channel directions.Output) channel) (λ number is.
           then_finds (typed_finding point.names Int value) _ (ReadsExpression program scope value) _
           (typed_reads program scope point.names matches.agrees Int value)
           (λ e reads. record { after = scope; reads = ReadSend is reads; matches = matches }))
@@ -212,7 +212,7 @@ module _ (program : Program) where
       statement_reads scope point (ContinueTree at) matches = record { after = scope; reads = ReadContinue; matches = matches }
       statement_reads scope point (ThrowTree at exception) matches =
           then_finds (use_as (item_of Exception) (point.names exception.text) exception.at) _ (IsException program scope exception) _
-          (exception_reads program scope point.names matches.agrees exception)
+          (item_reads program scope point.names matches.agrees Exception exception)
           (λ number is. record { after = scope; reads = ReadThrow is; matches = matches })
       statement_reads scope point (ReturnTree at value) matches =
           then_finds (return_finding setting.result point.names at value) _ (λ s. ReadsStatement program scope (ReturnTree at value) s scope) _
@@ -261,7 +261,7 @@ module _ (program : Program) where
       catches_read scope point NoCatch matches = record { after = scope; reads = ReadNoCatch; matches = matches }
       catches_read scope point (CatchThen at exception body rest) matches =
           then_finds (use_as (item_of Exception) (point.names exception.text) exception.at) _ (IsException program scope exception) _
-          (exception_reads program scope point.names matches.agrees exception) (λ number is.
+          (item_reads program scope point.names matches.agrees Exception exception) (λ number is.
           then_finds (block_finding setting point body) _ (BlockRead scope body) _ (block_reads scope point body matches) (λ done read.
           then_finds (catches_finding setting done.0 rest) _ (CatchesRead read.after rest) _ (catches_read read.after done.0 rest read.matches)
           (λ others read_others. record {
@@ -297,7 +297,7 @@ module _ (program : Program) where
       then_finds (next_thrown labels before thrown) (λ next. along (next_thrown labels) next written)
       (λ next. (entry : ThrownEntry) × (next ≡ before ++ entry ∷ []) × IsException program top_scope thrown.name entry.exception) _
       (then_finds (use_as (item_of Exception) (labels.names thrown.name.text) thrown.name.at) _ (IsException program top_scope thrown.name) _
-      (exception_reads program top_scope labels.names agrees thrown.name) (λ exception is.
+      (item_reads program top_scope labels.names agrees Exception thrown.name) (λ exception is.
       then_finds (require (not (is_thrown before exception)) _ thrown.name.at) _ (λ one. Unit {0}) _
       (any_finds (require (not (is_thrown before exception)) _ thrown.name.at)) (λ one nothing.
       then_finds (label_finding labels thrown.label) _ (λ one. Unit {0}) _ (any_finds (label_finding labels thrown.label))

@@ -24,6 +24,7 @@ use Rattle.resolved.specs.Tree.{Expression, Call}
 use Rattle.resolved.specs.WellFormed.{same_base, prefix_base}
 use Rattle.types.specs.declared.scope.Meaning.{Meaning}
 use Rattle.common.specs.declared.direction.Direction.TheVariants as directions
+use Rattle.types.specs.declared.scope.ItemKind.{ItemKind}
 use Rattle.types.specs.declared.scope.ItemKind.TheVariants.{Channel, Exception, Procedure}
 use Rattle.types.specs.declared.scope.Meaning.TheVariants as meanings
 use Rattle.types.specs.Finding.{Finding, require, along}
@@ -32,6 +33,7 @@ use Rattle.types.specs.Expressions.{prefix_of, use_of, Typed, of_base, wanting, 
 use Rattle.types.specs.Statements.{arguments_finding, Signature, signature_at, next_argument, call_finding, gives_base, assigned_finding}
 use Rattle.types.specs.ReadBack.{NameScope, with_declared, innermost, IsChannel, IsException, IsProcedure, IsVariable, written_prefix, ReadsExpression, ReadInteger, ReadTruth, ReadVariable, ReadElement, ReadUnary, ReadBinary, ReadShort, ReadsArguments, ReadNoArgument, ReadArgument, ReadsRight, ReadReceived, ReadCalled, ReadValue}
 use Rattle.types.proofs.Passing.{then_finds, if_finds, any_finds}
+use Rattle.types.proofs.Uses.{scalar_used, array_used, item_used}
 
 prefix_written : (operator : UnaryOperator) → written_prefix (prefix_of operator) ≡ operator
 prefix_written unary.Negate = refl
@@ -88,84 +90,16 @@ module _ (program : Program) where
     -- ---- uses
 
     pub scalar_reads : (name : NameTree) → IfOk (use_as scalar_of (names name.text) name.at) (λ (x : Variable × BaseType). IsVariable program scope name x.0)
-    unfolding use_as
-    scalar_reads name = go (names name.text) (agrees name)
-      where
-        go : (found : Option Meaning) → ((meaning : Meaning) → found ≡ Some meaning → IsMeaning scope name meaning)
-            → IfOk (use_as scalar_of found name.at) (λ (x : Variable × BaseType). IsVariable program scope name x.0)
-        go None h = tt
-        go (Some (meanings.Variable x base None)) h = h (meanings.Variable x base None) refl
-        go (Some (meanings.Variable x base (Some size))) h = tt
-        go (Some (meanings.Item (Channel direction) channel)) h = tt
-        go (Some (meanings.Item Exception number)) h = tt
-        go (Some (meanings.Item Procedure number)) h = tt
+    scalar_reads name =
+        IfOk-weaker (use_as scalar_of (names name.text) name.at) _ _ (λ x is. agrees name (meanings.Variable x.0 x.1 None) is) (scalar_used (names name.text) name.at)
 
     pub array_reads : (name : NameTree) → IfOk (use_as array_of (names name.text) name.at) (λ (a : Variable × BaseType × ℕ). IsVariable program scope name a.0)
-    unfolding use_as
-    array_reads name = go (names name.text) (agrees name)
-      where
-        go : (found : Option Meaning) → ((meaning : Meaning) → found ≡ Some meaning → IsMeaning scope name meaning)
-            → IfOk (use_as array_of found name.at) (λ (a : Variable × BaseType × ℕ). IsVariable program scope name a.0)
-        go None h = tt
-        go (Some (meanings.Variable x base (Some size))) h = h (meanings.Variable x base (Some size)) refl
-        go (Some (meanings.Variable x base None)) h = tt
-        go (Some (meanings.Item (Channel direction) channel)) h = tt
-        go (Some (meanings.Item Exception number)) h = tt
-        go (Some (meanings.Item Procedure number)) h = tt
+    array_reads name =
+        IfOk-weaker (use_as array_of (names name.text) name.at) _ _ (λ a is. agrees name (meanings.Variable a.0 a.1 (Some a.2)) is) (array_used (names name.text) name.at)
 
-    pub input_reads : (name : NameTree) → IfOk (use_as (item_of (Channel directions.Input)) (names name.text) name.at) (IsChannel program scope name)
-    unfolding use_as
-    input_reads name = go (names name.text) (agrees name)
-      where
-        go : (found : Option Meaning) → ((meaning : Meaning) → found ≡ Some meaning → IsMeaning scope name meaning)
-            → IfOk (use_as (item_of (Channel directions.Input)) found name.at) (IsChannel program scope name)
-        go None h = tt
-        go (Some (meanings.Item (Channel directions.Input) channel)) h = h (meanings.Item (Channel directions.Input) channel) refl
-        go (Some (meanings.Item (Channel directions.Output) channel)) h = tt
-        go (Some (meanings.Item Exception number)) h = tt
-        go (Some (meanings.Item Procedure number)) h = tt
-        go (Some (meanings.Variable x base None)) h = tt
-        go (Some (meanings.Variable x base (Some size))) h = tt
-
-    pub output_reads : (name : NameTree) → IfOk (use_as (item_of (Channel directions.Output)) (names name.text) name.at) (IsChannel program scope name)
-    unfolding use_as
-    output_reads name = go (names name.text) (agrees name)
-      where
-        go : (found : Option Meaning) → ((meaning : Meaning) → found ≡ Some meaning → IsMeaning scope name meaning)
-            → IfOk (use_as (item_of (Channel directions.Output)) found name.at) (IsChannel program scope name)
-        go None h = tt
-        go (Some (meanings.Item (Channel directions.Output) channel)) h = h (meanings.Item (Channel directions.Output) channel) refl
-        go (Some (meanings.Item (Channel directions.Input) channel)) h = tt
-        go (Some (meanings.Item Exception number)) h = tt
-        go (Some (meanings.Item Procedure number)) h = tt
-        go (Some (meanings.Variable x base None)) h = tt
-        go (Some (meanings.Variable x base (Some size))) h = tt
-
-    pub exception_reads : (name : NameTree) → IfOk (use_as (item_of Exception) (names name.text) name.at) (IsException program scope name)
-    unfolding use_as
-    exception_reads name = go (names name.text) (agrees name)
-      where
-        go : (found : Option Meaning) → ((meaning : Meaning) → found ≡ Some meaning → IsMeaning scope name meaning)
-            → IfOk (use_as (item_of Exception) found name.at) (IsException program scope name)
-        go None h = tt
-        go (Some (meanings.Item Exception number)) h = h (meanings.Item Exception number) refl
-        go (Some (meanings.Item (Channel direction) channel)) h = tt
-        go (Some (meanings.Item Procedure number)) h = tt
-        go (Some (meanings.Variable x base None)) h = tt
-        go (Some (meanings.Variable x base (Some size))) h = tt
-
-    procedure_reads : (name : NameTree) → IfOk (use_as (item_of Procedure) (names name.text) name.at) (IsProcedure program scope name)
-    unfolding use_as
-    procedure_reads name = go (names name.text) (agrees name)
-      where
-        go : (found : Option Meaning) → ((meaning : Meaning) → found ≡ Some meaning → IsMeaning scope name meaning)
-            → IfOk (use_as (item_of Procedure) found name.at) (IsProcedure program scope name)
-        go None h = tt
-        go (Some (meanings.Item Procedure number)) h = h (meanings.Item Procedure number) refl
-        go (Some (meanings.Item (Channel direction) channel)) h = tt
-        go (Some (meanings.Item Exception number)) h = tt
-        go (Some (meanings.Variable x base None)) h = tt
-        go (Some (meanings.Variable x base (Some size))) h = tt
+    pub item_reads : (kind : ItemKind) (name : NameTree) → IfOk (use_as (item_of kind) (names name.text) name.at) (λ n. IsMeaning scope name (meanings.Item kind n))
+    item_reads kind name =
+        IfOk-weaker (use_as (item_of kind) (names name.text) name.at) _ _ (λ n is. agrees name (meanings.Item kind n) is) (item_used kind (names name.text) name.at)
 
     -- ---- expressions
 
@@ -262,7 +196,7 @@ module _ (program : Program) where
     unfolding call_finding arguments_finding
     call_reads signatures call =
         then_finds (use_as (item_of Procedure) (names call.procedure.text) call.procedure.at) _ (IsProcedure program scope call.procedure) _
-        (procedure_reads call.procedure) (λ number is.
+        (item_reads Procedure call.procedure) (λ number is.
         let signature = signature_at signatures number in
         then_finds (require (length signature.parameters == length call.arguments) _ call.procedure.at) _ (λ one. Unit {0}) _
         (any_finds (require (length signature.parameters == length call.arguments) _ call.procedure.at)) (λ one nothing.
@@ -275,7 +209,7 @@ module _ (program : Program) where
     unfolding assigned_finding
     right_reads signatures at x base (ReceivedTree receive_at channel) =
         then_finds (require (same_base Int base) _ receive_at) _ (λ one. Unit {0}) _ (any_finds (require (same_base Int base) _ receive_at)) (λ one nothing.
-        then_finds (use_as (item_of (Channel directions.Input)) (names channel.text) channel.at) _ (IsChannel program scope channel) _ (input_reads channel) (λ number is. ReadReceived is))
+        then_finds (use_as (item_of (Channel directions.Input)) (names channel.text) channel.at) _ (IsChannel program scope channel) _ (item_reads (Channel directions.Input) channel) (λ number is. ReadReceived is))
     right_reads signatures at x base (CalledTree call) =
         then_finds (call_finding signatures names call) _
         (λ (made : CallUse). IsProcedure program scope call.procedure made.0 × ReadsArguments program scope call.arguments made.1) _

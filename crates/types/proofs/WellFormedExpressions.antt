@@ -2,6 +2,7 @@
 -- its base type there.
 use Rattle.std.proofs.Common.{◌≡◌, refl, sym, subst, ℕ, ◌+◌, ◌≤◌, List, map, Bool, true, false, cond, arith}
 use Rattle.std.specs.Prelude.{IfOk, Option, Some, None, ◌==◌, slice_get, bytes_eq}
+use Rattle.std.proofs.lemmas.Result.{IfOk-weaker}
 use Rattle.std.proofs.lemmas.Bool.{le-leb, eq-eqb, and_from}
 use Rattle.syntax.specs.declared.tree.BinaryOperator.{BinaryOperator}
 use Rattle.syntax.specs.declared.tree.BinaryOperator.TheVariants as binary
@@ -11,12 +12,12 @@ use Rattle.syntax.specs.Written.{IsInteger, IsWrittenExpression}
 use Rattle.common.specs.declared.base_type.BaseType.{BaseType}
 use Rattle.resolved.specs.declared.expression.Variable.{Variable}
 use Rattle.common.specs.declared.base_type.BaseType.TheVariants.{Int, Boolean}
-use Rattle.common.specs.declared.direction.Direction.TheVariants as directions
 use Rattle.resolved.specs.Program.{Program, ProcedureEntry, SlotEntry, ResultEntry}
 use Rattle.resolved.specs.Tree.{Expression}
 use Rattle.resolved.specs.WellFormed.{same_base, prefix_base, VariableType, variable_type, scalar_by, array_by, has_base, channel_is, is_exception, parameters_of, expression_nodes}
 use Rattle.resolved.proofs.Sound.Values.{same_base_is, same_base_itself}
 use Rattle.types.specs.declared.scope.Meaning.{Meaning}
+use Rattle.types.specs.declared.scope.ItemKind.{ItemKind}
 use Rattle.types.specs.declared.scope.ItemKind.TheVariants.{Channel, Exception, Procedure}
 use Rattle.types.specs.declared.scope.Meaning.TheVariants as meanings
 use Rattle.types.specs.Finding.{Finding}
@@ -24,6 +25,7 @@ use Rattle.types.specs.Environment.{Environment, declaring, use_as, scalar_of, a
 use Rattle.types.specs.Expressions.{prefix_of, use_of, Typed, of_base, wanting, operands_base, value_base, combined, expression_finding, typed_finding}
 use Rattle.types.specs.Statements.{Signature, signature_at}
 use Rattle.types.proofs.Passing.{then_finds, if_finds}
+use Rattle.types.proofs.Uses.{scalar_used, array_used, item_used}
 use Rattle.common.specs.declared.limits.TheConstants.{MAX_INTEGER}
 
 -- ---- what names stand for
@@ -73,85 +75,18 @@ module _ (program : Program) (procedure : ProcedureEntry) (signatures : List Sig
 
   pub scalar_found : (names : Environment) (name : NameTree)
       → IfOk (use_as scalar_of (names name.text) name.at) (λ (x : Variable × BaseType). Means names → variable_type program procedure x.0 ≡ scalar_type x.1)
-  unfolding use_as
-  scalar_found names name = go (names name.text) refl
-    where
-      go : (found : Option Meaning) → names name.text ≡ found
-          → IfOk (use_as scalar_of found name.at) (λ (x : Variable × BaseType). Means names → variable_type program procedure x.0 ≡ scalar_type x.1)
-      go None e = tt
-      go (Some (meanings.Variable x base None)) e = λ means. means name.text (meanings.Variable x base None) e
-      go (Some (meanings.Variable x base (Some size))) e = tt
-      go (Some (meanings.Item (Channel direction) channel)) e = tt
-      go (Some (meanings.Item Exception number)) e = tt
-      go (Some (meanings.Item Procedure number)) e = tt
+  scalar_found names name =
+      IfOk-weaker (use_as scalar_of (names name.text) name.at) _ _ (λ x is means. means name.text (meanings.Variable x.0 x.1 None) is) (scalar_used (names name.text) name.at)
 
   pub array_found : (names : Environment) (name : NameTree)
       → IfOk (use_as array_of (names name.text) name.at) (λ (a : Variable × BaseType × ℕ). Means names → variable_type program procedure a.0 ≡ array_type a.1 a.2)
-  unfolding use_as
-  array_found names name = go (names name.text) refl
-    where
-      go : (found : Option Meaning) → names name.text ≡ found
-          → IfOk (use_as array_of found name.at) (λ (a : Variable × BaseType × ℕ). Means names → variable_type program procedure a.0 ≡ array_type a.1 a.2)
-      go None e = tt
-      go (Some (meanings.Variable x base (Some size))) e = λ means. means name.text (meanings.Variable x base (Some size)) e
-      go (Some (meanings.Variable x base None)) e = tt
-      go (Some (meanings.Item (Channel direction) channel)) e = tt
-      go (Some (meanings.Item Exception number)) e = tt
-      go (Some (meanings.Item Procedure number)) e = tt
+  array_found names name =
+      IfOk-weaker (use_as array_of (names name.text) name.at) _ _ (λ a is means. means name.text (meanings.Variable a.0 a.1 (Some a.2)) is) (array_used (names name.text) name.at)
 
-  pub input_found : (names : Environment) (name : NameTree)
-      → IfOk (use_as (item_of (Channel directions.Input)) (names name.text) name.at) (λ channel. Means names → Stands (meanings.Item (Channel directions.Input) channel))
-  unfolding use_as
-  input_found names name = go (names name.text) refl
-    where
-      go : (found : Option Meaning) → names name.text ≡ found → IfOk (use_as (item_of (Channel directions.Input)) found name.at) (λ channel. Means names → Stands (meanings.Item (Channel directions.Input) channel))
-      go None e = tt
-      go (Some (meanings.Item (Channel directions.Input) channel)) e = λ means. means name.text (meanings.Item (Channel directions.Input) channel) e
-      go (Some (meanings.Item (Channel directions.Output) channel)) e = tt
-      go (Some (meanings.Item Exception number)) e = tt
-      go (Some (meanings.Item Procedure number)) e = tt
-      go (Some (meanings.Variable x base None)) e = tt
-      go (Some (meanings.Variable x base (Some size))) e = tt
-
-  pub output_found : (names : Environment) (name : NameTree)
-      → IfOk (use_as (item_of (Channel directions.Output)) (names name.text) name.at) (λ channel. Means names → Stands (meanings.Item (Channel directions.Output) channel))
-  unfolding use_as
-  output_found names name = go (names name.text) refl
-    where
-      go : (found : Option Meaning) → names name.text ≡ found → IfOk (use_as (item_of (Channel directions.Output)) found name.at) (λ channel. Means names → Stands (meanings.Item (Channel directions.Output) channel))
-      go None e = tt
-      go (Some (meanings.Item (Channel directions.Output) channel)) e = λ means. means name.text (meanings.Item (Channel directions.Output) channel) e
-      go (Some (meanings.Item (Channel directions.Input) channel)) e = tt
-      go (Some (meanings.Item Exception number)) e = tt
-      go (Some (meanings.Item Procedure number)) e = tt
-      go (Some (meanings.Variable x base None)) e = tt
-      go (Some (meanings.Variable x base (Some size))) e = tt
-
-  pub exception_found : (names : Environment) (name : NameTree)
-      → IfOk (use_as (item_of Exception) (names name.text) name.at) (λ number. Means names → Stands (meanings.Item Exception number))
-  unfolding use_as
-  exception_found names name = go (names name.text) refl
-    where
-      go : (found : Option Meaning) → names name.text ≡ found → IfOk (use_as (item_of Exception) found name.at) (λ number. Means names → Stands (meanings.Item Exception number))
-      go None e = tt
-      go (Some (meanings.Item Exception number)) e = λ means. means name.text (meanings.Item Exception number) e
-      go (Some (meanings.Item (Channel direction) channel)) e = tt
-      go (Some (meanings.Item Procedure number)) e = tt
-      go (Some (meanings.Variable x base None)) e = tt
-      go (Some (meanings.Variable x base (Some size))) e = tt
-
-  pub procedure_found : (names : Environment) (name : NameTree)
-      → IfOk (use_as (item_of Procedure) (names name.text) name.at) (λ number. Means names → Stands (meanings.Item Procedure number))
-  unfolding use_as
-  procedure_found names name = go (names name.text) refl
-    where
-      go : (found : Option Meaning) → names name.text ≡ found → IfOk (use_as (item_of Procedure) found name.at) (λ number. Means names → Stands (meanings.Item Procedure number))
-      go None e = tt
-      go (Some (meanings.Item Procedure number)) e = λ means. means name.text (meanings.Item Procedure number) e
-      go (Some (meanings.Item (Channel direction) channel)) e = tt
-      go (Some (meanings.Item Exception number)) e = tt
-      go (Some (meanings.Variable x base None)) e = tt
-      go (Some (meanings.Variable x base (Some size))) e = tt
+  pub item_found : (kind : ItemKind) (names : Environment) (name : NameTree)
+      → IfOk (use_as (item_of kind) (names name.text) name.at) (λ n. Means names → Stands (meanings.Item kind n))
+  item_found kind names name =
+      IfOk-weaker (use_as (item_of kind) (names name.text) name.at) _ _ (λ n is means. means name.text (meanings.Item kind n) is) (item_used kind (names name.text) name.at)
 
   -- ---- expressions
 

@@ -27,7 +27,7 @@ use Rattle.types.specs.Statements.{Signature, Setting, Point, block_finding, slo
 use Rattle.types.specs.Views.{setting_within}
 use Rattle.types.specs.Resolution.{TopLevel, heads, result_base_of, signature_of, result_finding, next_parameter, is_thrown, next_thrown, procedure_entry_finding, joined_all}
 use Rattle.types.proofs.Passing.{then_finds, require_finds, any_finds, finds_for_all}
-use Rattle.types.proofs.WellFormedExpressions.{given_base, slot_base, Signed, Stands, Means, means_declaring, exception_found}
+use Rattle.types.proofs.WellFormedExpressions.{given_base, slot_base, Signed, Stands, Means, means_declaring, item_found}
 use Rattle.types.proofs.WellFormedLabels.{GlobalsFit, SlotsFit, label_there, optional_label_there, joined_all_there, all_pushed}
 use Rattle.types.proofs.WellFormedStatements.{slot_fits, IsPrefix, IsWellFormedBlock, prefix_before, local_there, block_keeps}
 use Rattle.common.specs.declared.limits.TheConstants.{MAX_CELLS}
@@ -128,7 +128,7 @@ throws_keep program procedure signatures scope globals_fit slots_fit before node
     (AreWellFormedThrows program procedure signatures scope.hierarchy scope.names (before + tree.thrown_nodes thrown)) _
     (then_finds (use_as (item_of Exception) (scope.names thrown.name.text) thrown.name.at) _
     (λ number. Means program procedure signatures scope.names → Stands program procedure signatures (meanings.Item Exception number)) _
-    (exception_found program procedure signatures scope.names thrown.name) (λ exception stands.
+    (item_found program procedure signatures Exception scope.names thrown.name) (λ exception stands.
     then_finds (require (not (is_thrown throws exception)) _ thrown.name.at) _ (λ one. not (is_thrown throws exception) ≡ true) _
     (require_finds (not (is_thrown throws exception)) _ thrown.name.at) (λ one absent.
     then_finds (label_finding scope thrown.label) _ (λ found. label_fits scope.hierarchy found ≡ true) _

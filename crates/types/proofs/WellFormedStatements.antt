@@ -31,7 +31,7 @@ use Rattle.types.specs.Labels.{optional_label_finding}
 use Rattle.types.specs.Expressions.{Typed, expression_finding, typed_finding}
 use Rattle.types.specs.Statements.{arguments_finding, Setting, Point, label_scope, signature_at, next_argument, call_finding, gives_base, assigned_finding, declare_finding, size_finding, declare_array_finding, returned_finding, return_finding, after_block, statement_finding, block_finding, statements_finding, catches_finding, slot_of}
 use Rattle.types.proofs.Passing.{then_finds, if_finds, require_finds, any_finds, finds_for_all}
-use Rattle.types.proofs.WellFormedExpressions.{given_base, slot_base, scalar_type, array_type, Stands, Means, means_declaring, scalar_found, array_found, input_found, output_found, exception_found, procedure_found, IsWellFormedTyped, IsWellFormedExpression, expression_keeps, typed_keeps}
+use Rattle.types.proofs.WellFormedExpressions.{given_base, slot_base, scalar_type, array_type, Stands, Means, means_declaring, scalar_found, array_found, item_found, IsWellFormedTyped, IsWellFormedExpression, expression_keeps, typed_keeps}
 use Rattle.types.proofs.WellFormedLabels.{GlobalsFit, SlotsFit, optional_label_there}
 use Rattle.common.specs.declared.limits.TheConstants.{MAX_ELEMENTS}
 use Rattle.types.specs.Views.{CallUse}
@@ -270,7 +270,7 @@ module _ (program : Program) (procedure : ProcedureEntry) (setting : Setting) wh
     call_keeps names call written =
         then_finds (use_as (item_of Procedure) (names call.procedure.text) call.procedure.at) _
         (λ number. MeansHere names → Stands program procedure setting.signatures (meanings.Item Procedure number)) _
-        (procedure_found program procedure setting.signatures names call.procedure) (λ number stands.
+        (item_found program procedure setting.signatures Procedure names call.procedure) (λ number stands.
         let signature = signature_at setting.signatures number in
         then_finds (require (length signature.parameters == length call.arguments) _ call.procedure.at) _
         (λ one. (length signature.parameters == length call.arguments) ≡ true) _
@@ -335,7 +335,7 @@ module _ (program : Program) (procedure : ProcedureEntry) (setting : Setting) wh
         then_finds (require (same_base Int base) _ receive_at) _ (λ one. same_base Int base ≡ true) _ (require_finds (same_base Int base) _ receive_at) (λ one same.
         then_finds (use_as (item_of (Channel directions.Input)) (names channel.text) channel.at) _
         (λ number. MeansHere names → Stands program procedure setting.signatures (meanings.Item (Channel directions.Input) number)) _
-        (input_found program procedure setting.signatures names channel) (λ number stands. record {
+        (item_found program procedure setting.signatures (Channel directions.Input) names channel) (λ number stands. record {
           fits =
               λ means e. and_from (channel_is (slice_get program.channels number) directions.Input)
               (scalar_by (variable_type program procedure target) (same_base Int)) (stands means) (scalar_passes target base (same_base Int) e same);
@@ -429,7 +429,7 @@ module _ (program : Program) (procedure : ProcedureEntry) (setting : Setting) wh
     receive_keeps point at channel =
         then_finds (use_as (item_of (Channel directions.Input)) (point.names channel.text) channel.at) _
         (λ number. MeansHere point.names → Stands program procedure setting.signatures (meanings.Item (Channel directions.Input) number)) _
-        (input_found program procedure setting.signatures point.names channel) (λ number stands.
+        (item_found program procedure setting.signatures (Channel directions.Input) point.names channel) (λ number stands.
         plain_keeps point 2 (Receive at number None) (record {
           fits = λ means. and_from (channel_is (slice_get program.channels number) directions.Input) true (stands means) refl;
           no_loops = refl;
@@ -442,7 +442,7 @@ module _ (program : Program) (procedure : ProcedureEntry) (setting : Setting) wh
     send_keeps point at channel right written =
         then_finds (use_as (item_of (Channel directions.Output)) (point.names channel.text) channel.at) _
         (λ number. MeansHere point.names → Stands program procedure setting.signatures (meanings.Item (Channel directions.Output) number)) _
-        (output_found program procedure setting.signatures point.names channel) (λ number stands.
+        (item_found program procedure setting.signatures (Channel directions.Output) point.names channel) (λ number stands.
         then_finds (typed_finding point.names Int right) _ (HasBase point.names Int (tree.expression_nodes right)) _
         (typed_keeps program procedure setting.signatures placed word point.names Int right written) (λ e kept.
         plain_keeps point (2 + tree.expression_nodes right) (Send at number e) (record {
@@ -459,7 +459,7 @@ module _ (program : Program) (procedure : ProcedureEntry) (setting : Setting) wh
     throw_keeps point at exception =
         then_finds (use_as (item_of Exception) (point.names exception.text) exception.at) _
         (λ number. MeansHere point.names → Stands program procedure setting.signatures (meanings.Item Exception number)) _
-        (exception_found program procedure setting.signatures point.names exception) (λ number stands.
+        (item_found program procedure setting.signatures Exception point.names exception) (λ number stands.
         plain_keeps point 2 (Leave at (exits.Throw number)) (record { fits = stands; no_loops = refl; few = omega arith }))
 
     module _ (value : given_base procedure.result ≡ setting.result) where
@@ -511,7 +511,7 @@ module _ (program : Program) (procedure : ProcedureEntry) (setting : Setting) wh
 
       declare_keeps : (point : Point) (at : ℕ) (base : BaseType) (label : Option LabelTree) (name : NameTree) (right : RightTree) → IsWrittenRight placed word IsInteger right
           → IfOk (declare_finding setting point at base label name right) (IsWellFormedStatement point (2 + (tree.optional_label_nodes label + tree.right_nodes right)))
-      unfolding declare_finding
+      unfolding statement_finding
       declare_keeps point at base label name right written_right =
           let target = Local (length point.slots) in
           then_finds (optional_label_finding (label_scope setting point) label) _ (λ found. FitBefore point → written_fits setting.outer.hierarchy found ≡ true) _
@@ -537,7 +537,7 @@ module _ (program : Program) (procedure : ProcedureEntry) (setting : Setting) wh
 
       declare_array_keeps : (point : Point) (at : ℕ) (base : BaseType) (label : Option LabelTree) (name : NameTree) (size : SizeTree)
           → IfOk (declare_array_finding setting point at base label name size) (IsWellFormedStatement point (3 + tree.optional_label_nodes label))
-      unfolding declare_array_finding size_finding
+      unfolding statement_finding size_finding
       declare_array_keeps point at base label name size =
           let target = Local (length point.slots) in
           then_finds (optional_label_finding (label_scope setting point) label) _ (λ found. FitBefore point → written_fits setting.outer.hierarchy found ≡ true) _
@@ -688,7 +688,7 @@ module _ (program : Program) (procedure : ProcedureEntry) (setting : Setting) wh
         catches_keep point (CatchThen at exception body rest) is =
             then_finds (use_as (item_of Exception) (point.names exception.text) exception.at) _
             (λ number. MeansHere point.names → Stands program procedure setting.signatures (meanings.Item Exception number)) _
-            (exception_found program procedure setting.signatures point.names exception) (λ number there.
+            (item_found program procedure setting.signatures Exception point.names exception) (λ number there.
             then_finds (block_finding setting point body) _ (IsWellFormedBlock point (tree.block_nodes body)) _ (block_keeps point body is.2) (λ done kept.
             then_finds (catches_finding setting done.0 rest) _ (AreWellFormedHandlers done.0 (tree.catches_nodes rest)) _ (catches_keep done.0 rest is.3)
             (λ others kept_others.

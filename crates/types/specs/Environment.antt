@@ -1,7 +1,7 @@
 -- What names stand for at a point of a program, and what each use of a name asks of it.
 -- Source: our own, environments in the usual sense. Channels, exceptions, globals and procedures share one space of names, in which
 -- `Arith`, `Bounds` and `End` are declared from the start; the parameters and locals of a procedure join it in its body.
-use Rattle.std.specs.Prelude.{ℕ, List, Option, Some, None, bytes_eq, if◌then◌else◌}
+use Rattle.std.specs.Prelude.{ℕ, List, Option, Some, None, bytes_eq, is_none, option_map, if◌then◌else◌}
 use Rattle.common.specs.declared.base_type.BaseType.{BaseType}
 use Rattle.resolved.specs.declared.expression.Variable.{Variable}
 use Rattle.types.specs.declared.fault.TypeRefusalKind.TheVariants as refusals
@@ -9,7 +9,7 @@ use Rattle.types.specs.declared.scope.ItemKind.{ItemKind}
 use Rattle.types.specs.contracts.scope.ItemKindPartialEq.TheImpl.{eq-value}
 use Rattle.types.specs.declared.scope.Meaning.{Meaning}
 use Rattle.types.specs.declared.scope.Meaning.TheVariants as meanings
-use Rattle.types.specs.Finding.{Finding, give, refuse, found_or}
+use Rattle.types.specs.Finding.{Finding, refuse, require, found_or}
 
 -- what each name stands for, if it is in scope
 abbrev pub Environment : Type 0
@@ -23,8 +23,7 @@ declaring name meaning names other = if bytes_eq name other then Some meaning el
 
 -- a declaration: nothing of that name is in scope yet (302)
 unfoldable pub fresh_finding : Option Meaning → (at : ℕ) → Finding (Unit {0})
-fresh_finding None at = give tt
-fresh_finding (Some meaning) at = refuse refusals.DeclaredTwice at
+fresh_finding found at = require (is_none found) refusals.DeclaredTwice at
 
 -- a name at a place that wants something of what it stands for: 301 where it is not in scope, 403 where it stands for something else
 unfoldable pub use_as : {A : Type 0} → (Meaning → Option A) → Option Meaning → (at : ℕ) → Finding A
@@ -44,11 +43,9 @@ variable_of (meanings.Variable variable base size) = Some variable
 -- a scalar variable, with the type of its values
 abbrev pub scalar_of : Meaning → Option (Variable × BaseType)
 scalar_of (meanings.Item kind number) = None
-scalar_of (meanings.Variable variable base None) = Some (variable, base)
-scalar_of (meanings.Variable variable base (Some size)) = None
+scalar_of (meanings.Variable variable base size) = if is_none size then Some (variable, base) else None
 
 -- an array, with the type of its elements and its length
 abbrev pub array_of : Meaning → Option (Variable × BaseType × ℕ)
 array_of (meanings.Item kind number) = None
-array_of (meanings.Variable variable base None) = None
-array_of (meanings.Variable variable base (Some size)) = Some (variable, base, size)
+array_of (meanings.Variable variable base size) = option_map (λ length. (variable, base, length)) size

@@ -3,7 +3,6 @@
 -- Source: our own, the usual rules of simple types.
 use Rattle.std.specs.Prelude.{ℕ}
 use Rattle.common.specs.declared.base_type.BaseType.{BaseType}
-use Rattle.common.specs.declared.base_type.BaseType.TheVariants as base_types
 use Rattle.syntax.specs.declared.tree.UnaryOperator.{UnaryOperator}
 use Rattle.syntax.specs.declared.tree.UnaryOperator.TheVariants as unary
 use Rattle.syntax.specs.declared.tree.BinaryOperator.{BinaryOperator}

@@ -1,6 +1,6 @@
 -- What looking at a part of a program comes to: something that was found, or the first fault.
 -- Source: our own, the results of a computation that may fail, in the usual sense.
-use Rattle.std.specs.Prelude.{◌≡◌, ℕ, List, [], ◌∷◌, ◌++◌, Bool, true, false, Option, None, Some, Result, Ok, Err, if◌then◌else◌}
+use Rattle.std.specs.Prelude.{◌≡◌, ℕ, List, [], ◌∷◌, ◌++◌, Bool, Option, None, Some, Result, Ok, Err, if◌then◌else◌}
 use Rattle.types.specs.declared.fault.TypeRefusalKind.{TypeRefusalKind}
 use Rattle.types.specs.declared.fault.TypeRefusal.{TypeRefusal}
 
@@ -34,8 +34,7 @@ give_if test x kind at = if test then give x else refuse kind at
 
 -- nothing but that a test holds
 abbrev pub require : Bool → TypeRefusalKind → (at : ℕ) → Finding (Unit {0})
-require true kind at = give tt
-require false kind at = refuse kind at
+require test kind at = give_if test tt kind at
 
 -- from state to state along a list
 abbrev pub along : {S X : Type 0} → (S → X → Finding S) → S → List X → Finding S

@@ -53,15 +53,9 @@ component_finding scope (VariableComponent name) = do
   variable ← use_as variable_of (scope.names name.text) name.at
   variable_label_finding scope variable name.at
 
--- the policies of one component more
-abbrev pub next_component : LabelScope → List ReaderPolicy → ComponentTree → Finding (List ReaderPolicy)
-next_component scope found component = do
-  policies ← component_finding scope component
-  give (found ++ policies)
-
 unfoldable pub label_finding : LabelScope → LabelTree → Finding Label
 label_finding scope label = do
-  policies ← along (next_component scope) [] label.components
+  policies ← along (λ found component. component_finding scope component >>= λ more. give (found ++ more)) [] label.components
   give (written_label policies)
 
 -- a label that may be left out
@@ -70,3 +64,9 @@ optional_label_finding scope None = give None
 optional_label_finding scope (Some label) = do
   written ← label_finding scope label
   give (Some written)
+
+-- ---- a part of the rules, by which proofs speak of them
+
+-- the policies of one component more
+abbrev pub next_component : LabelScope → List ReaderPolicy → ComponentTree → Finding (List ReaderPolicy)
+next_component scope found component = component_finding scope component >>= λ more. give (found ++ more)

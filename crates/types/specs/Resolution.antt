@@ -1,7 +1,7 @@
 -- The resolved program that a syntax tree stands for under a hierarchy, or the first fault: first the names of the items, then the
 -- items, each from left to right with its body, then `main` (304), and last the cells of the globals and of each procedure (704).
 -- Source: our own; what is left out of the labels of a procedure as in JFlow (Myers 1999).
-use Rattle.std.specs.Prelude.{ℕ, ◌+◌, List, [], ◌∷◌, ◌++◌, map, length, sum_by, Bool, not, ◌==◌, ◌&&◌, nat_le, if◌then◌else◌, codes, is_none, Option, Some, None, unwrap_or, option_and_then, slice_get, ℤ, pos, neg_ℤ}
+use Rattle.std.specs.Prelude.{ℕ, ◌+◌, List, [], ◌∷◌, ◌++◌, map, fold, length, sum_by, Bool, not, ◌==◌, ◌&&◌, nat_le, if◌then◌else◌, codes, is_none, Option, Some, None, unwrap_or, option_and_then, slice_get, ℤ, pos, neg_ℤ}
 use Rattle.common.specs.declared.exceptions.TheConstants.{ARITH, ARITH_NAME, BOUNDS, BOUNDS_NAME, END, END_NAME, BUILT_IN}
 use Rattle.std.specs.List.{list_any}
 use Rattle.principals.specs.ActsFor.{PrincipalHierarchy}
@@ -36,14 +36,11 @@ pub record TopLevel : Type 0 where
   pub globals : ℕ
   pub signatures : List Signature
 
-abbrev pub nothing_declared : Environment
-nothing_declared name = None
-
 abbrev pub built_in : TopLevel
 built_in = record {
   names = declaring END_NAME.now (meanings.Item Exception END)
       (declaring BOUNDS_NAME.now (meanings.Item Exception BOUNDS)
-      (declaring ARITH_NAME.now (meanings.Item Exception ARITH) nothing_declared));
+      (declaring ARITH_NAME.now (meanings.Item Exception ARITH) (λ name. None)));
   channels = 0;
   exceptions = BUILT_IN;
   globals = 0;
@@ -66,10 +63,8 @@ result_base_of NothingTree = None
 result_base_of (ResultTree base label) = Some base
 
 abbrev pub signature_of : ProcedureTree → Signature
-signature_of procedure = record {
-  parameters = map (λ (parameter : ParameterTree). parameter.base) procedure.parameters;
-  result = result_base_of procedure.result;
-}
+signature_of written =
+    record { parameters = map (λ (one : ParameterTree). one.base) written.parameters; result = result_base_of written.result }
 
 -- what the name of the next item stands for
 abbrev pub item_meaning : TopLevel → ItemTree → Meaning
@@ -102,13 +97,10 @@ channel_finding scope channel = do
   label ← label_finding scope channel.label
   give (record { direction = channel.direction; name = channel.name.text; label = label })
 
-abbrev pub signed : (negative : Bool) → ℕ → ℤ
-signed negative value = if negative then neg_ℤ (pos value) else pos value
-
 -- the length of a global that is an array, and what its cells hold at first
 unfoldable pub first_finding : BaseType → GlobalValueTree → Finding (Option ℕ × Value)
 first_finding base (ScalarTree (IntegerConstant at negative value)) =
-    give_if (same_base Int base) (None, Number (signed negative value)) refusals.WrongType at
+    give_if (same_base Int base) (None, Number (if negative then neg_ℤ (pos value) else pos value)) refusals.WrongType at
 first_finding base (ScalarTree (TruthConstant at value)) =
     give_if (same_base Boolean base) (None, Truth value) refusals.WrongType at
 first_finding base (ArrayTree size) = do
@@ -119,13 +111,7 @@ unfoldable pub global_finding : LabelScope → GlobalTree → Finding GlobalEntr
 global_finding scope global = do
   label ← label_finding scope global.label
   (size, first) ← first_finding global.base global.value
-  give (record {
-    name = global.name.text;
-    base = global.base;
-    size = size;
-    label = label;
-    first = first;
-  })
+  give (record { name = global.name.text; base = global.base; size = size; label = label; first = first })
 
 -- ---- procedures
 
@@ -143,20 +129,12 @@ next_parameter scope point parameter = do
   give (with_local point (slot_of parameter.at parameter.base (Some label) parameter.name.text None))
 
 -- an exception that a procedure may let out, which is none of those that it names before (302)
-abbrev pub is_thrown : List ThrownEntry → ℕ → Bool
-is_thrown throws exception = list_any (λ (thrown : ThrownEntry). thrown.exception == exception) throws
-
 abbrev pub next_thrown : LabelScope → List ThrownEntry → ThrownTree → Finding (List ThrownEntry)
 next_thrown scope throws thrown = do
   exception ← use_as (item_of Exception) (scope.names thrown.name.text) thrown.name.at
-  _ ← require (not (is_thrown throws exception)) refusals.DeclaredTwice thrown.name.at
+  _ ← require (not (list_any (λ (one : ThrownEntry). one.exception == exception) throws)) refusals.DeclaredTwice thrown.name.at
   label ← label_finding scope thrown.label
   give (throws ++ record { exception = exception; label = label } ∷ [])
-
--- a label joined by those of exceptions
-abbrev pub joined_all : Label → List ThrownEntry → Label
-joined_all label [] = label
-joined_all label (thrown ∷ rest) = joined_all (joined label thrown.label) rest
 
 -- a begin label that is left out is the least one; an end label that is left out is the join of the begin label and of those of the
 -- exceptions
@@ -173,9 +151,9 @@ procedure_entry_finding scope signatures procedure = do
     at = procedure.name.at;
     name = procedure.name.text;
     result = result;
-    begin_label = unwrap_or begin [];
-    end_label = unwrap_or end (joined_all (unwrap_or begin []) throws);
     throws = throws;
+    begin_label = unwrap_or begin [];
+    end_label = unwrap_or end (fold (λ label (thrown : ThrownEntry). joined label thrown.label) (unwrap_or begin []) throws);
     parameters = length procedure.parameters;
     slots = inner.0.slots;
     loops = inner.0.loops;
@@ -212,8 +190,7 @@ main_finding main procedures = do
 -- the cells of the globals so far, with those of the next item
 abbrev pub next_global_cells : (cells : ℕ) → ItemTree → Finding ℕ
 next_global_cells cells (GlobalItem global) =
-    give_if (nat_le (cells + cell_count (size_of global.value)) MAX_CELLS) (cells + cell_count (size_of global.value))
-    refusals.TooManyCells global.name.at
+    let total = cells + cell_count (size_of global.value) in give_if (nat_le total MAX_CELLS) total refusals.TooManyCells global.name.at
 next_global_cells cells (ChannelItem channel) = give cells
 next_global_cells cells (ExceptionItem at name) = give cells
 next_global_cells cells (ProcedureItem procedure) = give cells
@@ -232,3 +209,20 @@ resolution h program = do
   _ ← along next_global_cells 0 program.items
   _ ← along next_frame tt tables.procedures
   give (record tables { hierarchy = h; main = main })
+
+-- ---- parts of the rules, by which proofs speak of them
+
+-- a number with its sign
+abbrev pub signed : (negative : Bool) → ℕ → ℤ
+signed negative value = if negative then neg_ℤ (pos value) else pos value
+
+abbrev pub nothing_declared : Environment
+nothing_declared name = None
+
+-- whether exceptions that a procedure may let out have one of this number
+abbrev pub is_thrown : List ThrownEntry → ℕ → Bool
+is_thrown throws exception = list_any (λ (one : ThrownEntry). one.exception == exception) throws
+
+-- a label joined by those of exceptions
+abbrev pub joined_all : Label → List ThrownEntry → Label
+joined_all label throws = fold (λ label (thrown : ThrownEntry). joined label thrown.label) label throws

@@ -17,7 +17,7 @@ use Rattle.resolved.specs.WellFormed.{same_base}
 use Rattle.types.specs.declared.fault.TypeRefusalKind.TheVariants as refusals
 use Rattle.types.specs.declared.scope.ItemKind.TheVariants.{Channel, Exception, Procedure}
 use Rattle.types.specs.declared.scope.Meaning.TheVariants as meanings
-use Rattle.types.specs.Finding.{Finding, give, refuse, give_if, require, along, ◌>>=◌}
+use Rattle.types.specs.Finding.{Finding, give, refuse, give_if, require, along, put_last, ◌>>=◌}
 use Rattle.types.specs.Environment.{Environment, declaring, fresh_finding, use_as, item_of, scalar_of, array_of}
 use Rattle.types.specs.Labels.{LabelScope, optional_label_finding}
 use Rattle.types.specs.Expressions.{Typed, expression_finding, typed_finding}
@@ -54,24 +54,17 @@ with_local point slot = record point {
 
 -- ---- calls and right sides
 
-abbrev pub signature_at : List Signature → ℕ → Signature
-signature_at signatures procedure = slice_index_or signatures procedure (record { parameters = []; result = None })
-
--- the next argument, at a place that wants the type of its parameter
-abbrev pub next_argument : Environment → List BaseType → List Expression → ExpressionTree → Finding (List Expression)
-next_argument names parameters found argument = do
-  e ← typed_finding names (slice_index_or parameters (length found) Int) argument
-  give (found ++ e ∷ [])
-
+-- arguments, each at a place that wants the type of its parameter
 unfoldable pub arguments_finding : Environment → List BaseType → List ExpressionTree → Finding (List Expression)
-arguments_finding names parameters arguments = along (next_argument names parameters) [] arguments
+arguments_finding names parameters arguments =
+    along (λ found argument. put_last (typed_finding names (slice_index_or parameters (length found) Int)) found argument) [] arguments
 
 -- a call: its procedure, the arguments, and the type of its value, if it gives one. The count of the arguments is tested before they
 -- are looked at
 unfoldable pub call_finding : List Signature → Environment → CallTree → Finding (ℕ × List Expression × Option BaseType)
 call_finding signatures names call = do
   procedure ← use_as (item_of Procedure) (names call.procedure.text) call.procedure.at
-  let signature = signature_at signatures procedure
+  let signature = slice_index_or signatures procedure (record { parameters = []; result = None })
   _ ← require (length signature.parameters == length call.arguments) refusals.WrongArgumentCount call.procedure.at
   arguments ← arguments_finding names signature.parameters call.arguments
   give (procedure, arguments, signature.result)
@@ -100,24 +93,9 @@ assigned_finding signatures names at target base (ValueTree value) = do
 abbrev pub slot_of : (at : ℕ) → BaseType → Option Label → List ℕ → (size : Option ℕ) → SlotEntry
 slot_of at base label name size = record { base = base; size = size; written = label; at = at; name = name }
 
--- the name of a local is tested before its right side, where the local is not in scope yet
-unfoldable pub declare_finding : Setting → Point → (at : ℕ) → BaseType → Option LabelTree → NameTree → RightTree → Finding (Point × Statement)
-declare_finding setting point at base label name value = do
-  written ← optional_label_finding (label_scope setting point) label
-  _ ← fresh_finding (point.names name.text) name.at
-  statement ← assigned_finding setting.signatures point.names at (Local (length point.slots)) base value
-  give (with_local point (slot_of at base written name.text None), statement)
-
 -- the size of an array: 1 to 65536
 unfoldable pub size_finding : SizeTree → Finding ℕ
 size_finding size = give_if (nat_lt 0 size.size && nat_le size.size MAX_ELEMENTS) size.size refusals.ArraySize size.at
-
-unfoldable pub declare_array_finding : Setting → Point → (at : ℕ) → BaseType → Option LabelTree → NameTree → SizeTree → Finding (Point × Statement)
-declare_array_finding setting point at base label name size = do
-  written ← optional_label_finding (label_scope setting point) label
-  _ ← fresh_finding (point.names name.text) name.at
-  length_of ← size_finding size
-  give (with_local point (slot_of at base written name.text (Some length_of)), Clear at (length point.slots))
 
 -- ---- returns
 
@@ -133,16 +111,19 @@ return_finding result names at (Some value) = expression_finding names value >>=
 
 -- ---- statements, blocks and handlers
 
--- after a block what was in scope before it is in scope again; its slots stay taken
-abbrev pub after_block : Point → Point → Point
-after_block before inside = record { names = before.names; slots = inside.slots; loops = inside.loops }
-
 unfoldable mutual
   pub statement_finding : Setting → Point → StatementTree → Finding (Point × Statement)
-  statement_finding setting point (DeclareTree at base label name value) =
-      declare_finding setting point at base label name value
-  statement_finding setting point (DeclareArrayTree at base label name size) =
-      declare_array_finding setting point at base label name size
+  -- the name of a local is tested before its right side, where the local is not in scope yet
+  statement_finding setting point (DeclareTree at base label name value) = do
+    written ← optional_label_finding (label_scope setting point) label
+    _ ← fresh_finding (point.names name.text) name.at
+    statement ← assigned_finding setting.signatures point.names at (Local (length point.slots)) base value
+    give (with_local point (slot_of at base written name.text None), statement)
+  statement_finding setting point (DeclareArrayTree at base label name size) = do
+    written ← optional_label_finding (label_scope setting point) label
+    _ ← fresh_finding (point.names name.text) name.at
+    length_of ← size_finding size
+    give (with_local point (slot_of at base written name.text (Some length_of)), Clear at (length point.slots))
   statement_finding setting point (AssignTree target value) = do
     (x, base) ← use_as scalar_of (point.names target.text) target.at
     statement ← assigned_finding setting.signatures point.names target.at x base value
@@ -191,10 +172,11 @@ unfoldable mutual
     inner ← block_finding setting point (BlockOf at statements)
     give (inner.0, Nested at inner.1)
 
+  -- after a block what was in scope before it is in scope again; its slots stay taken
   pub block_finding : Setting → Point → BlockTree → Finding (Point × Block)
   block_finding setting point (BlockOf at statements) = do
     inner ← statements_finding setting point statements
-    give (after_block point inner.0, inner.1)
+    give (record inner.0 { names = point.names }, inner.1)
 
   pub statements_finding : Setting → Point → StatementTrees → Finding (Point × Block)
   statements_finding setting point NoStatement = give (point, Empty)
@@ -210,3 +192,23 @@ unfoldable mutual
     inner ← block_finding setting point body
     others ← catches_finding setting inner.0 rest
     give (others.0, Catch exception.at number inner.1 others.1)
+
+-- ---- parts of the rules, by which proofs speak of them
+
+abbrev pub signature_at : List Signature → ℕ → Signature
+signature_at signatures procedure = slice_index_or signatures procedure (record { parameters = []; result = None })
+
+-- the next argument, at a place that wants the type of its parameter
+abbrev pub next_argument : Environment → List BaseType → List Expression → ExpressionTree → Finding (List Expression)
+next_argument names parameters found argument = put_last (typed_finding names (slice_index_or parameters (length found) Int)) found argument
+
+-- after a block what was in scope before it is in scope again; its slots stay taken
+abbrev pub after_block : Point → Point → Point
+after_block before inside = record inside { names = before.names }
+
+-- the declaration of a local
+abbrev pub declare_finding : Setting → Point → (at : ℕ) → BaseType → Option LabelTree → NameTree → RightTree → Finding (Point × Statement)
+declare_finding setting point at base label name value = statement_finding setting point (DeclareTree at base label name value)
+
+abbrev pub declare_array_finding : Setting → Point → (at : ℕ) → BaseType → Option LabelTree → NameTree → SizeTree → Finding (Point × Statement)
+declare_array_finding setting point at base label name size = statement_finding setting point (DeclareArrayTree at base label name size)

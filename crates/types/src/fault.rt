@@ -1,8 +1,8 @@
-ghost use Rattle.types.specs.RefusalKinds.{name_refusal_number, name_refusal_words};
-ghost use Rattle.std.specs.Prelude.{◌≡◌, Some};
+ghost use Rattle.types.specs.RefusalKinds.{name_message};
+ghost use Rattle.std.specs.Prelude.{Some};
 
-use common::OrNoMemory;
-use principals::UNKNOWN_PRINCIPAL_WORDS;
+use common::{Message, OrNoMemory, Reported};
+use principals::HierarchyRefusalKind;
 use std::error::Error;
 use std::fmt;
 
@@ -31,40 +31,23 @@ pub enum TypeRefusalKind {
     TooManyCells,
 }
 
-impl TypeRefusalKind {
-    /// The number that the refusal is reported by: 301 to 305, 401 to 403, 703 or 704.
-    pub fn number(self) -> u32
-        ensures { result ≡ name_refusal_number self }
-    {
-        match self {
-            TypeRefusalKind::UnknownName => 301,
-            TypeRefusalKind::DeclaredTwice => 302,
-            TypeRefusalKind::UnknownPrincipal => 303,
-            TypeRefusalKind::NoProperMain => 304,
-            TypeRefusalKind::LabelNotWritten => 305,
-            TypeRefusalKind::WrongType => 401,
-            TypeRefusalKind::WrongArgumentCount => 402,
-            TypeRefusalKind::WrongUse => 403,
-            TypeRefusalKind::ArraySize => 703,
-            TypeRefusalKind::TooManyCells => 704,
-        }
-    }
+impl Reported for TypeRefusalKind {
+    ghost contents = { name_message };
 
-    /// The words that the refusal is reported by.
-    pub fn words(self) -> &'static str
-        ensures { result.now ≡ name_refusal_words self }
-    {
+    fn message(&self) -> Message {
         match self {
-            TypeRefusalKind::UnknownName => "unknown name",
-            TypeRefusalKind::DeclaredTwice => "declared twice",
-            TypeRefusalKind::UnknownPrincipal => UNKNOWN_PRINCIPAL_WORDS,
-            TypeRefusalKind::NoProperMain => "no proper main",
-            TypeRefusalKind::LabelNotWritten => "label not written",
-            TypeRefusalKind::WrongType => "wrong type",
-            TypeRefusalKind::WrongArgumentCount => "wrong argument count",
-            TypeRefusalKind::WrongUse => "wrong use",
-            TypeRefusalKind::ArraySize => "array size",
-            TypeRefusalKind::TooManyCells => "too many cells",
+            TypeRefusalKind::UnknownName => Message::new(301, "unknown name"),
+            TypeRefusalKind::DeclaredTwice => Message::new(302, "declared twice"),
+            TypeRefusalKind::UnknownPrincipal => {
+                Message::new(303, HierarchyRefusalKind::UnknownPrincipal.words())
+            }
+            TypeRefusalKind::NoProperMain => Message::new(304, "no proper main"),
+            TypeRefusalKind::LabelNotWritten => Message::new(305, "label not written"),
+            TypeRefusalKind::WrongType => Message::new(401, "wrong type"),
+            TypeRefusalKind::WrongArgumentCount => Message::new(402, "wrong argument count"),
+            TypeRefusalKind::WrongUse => Message::new(403, "wrong use"),
+            TypeRefusalKind::ArraySize => Message::new(703, "array size"),
+            TypeRefusalKind::TooManyCells => Message::new(704, "too many cells"),
         }
     }
 }
@@ -77,7 +60,7 @@ pub struct TypeRefusal {
 }
 
 impl fmt::Display for TypeRefusal {
-    ghost output = { λ refusal. Some (name_refusal_words refusal.kind) };
+    ghost output = { λ refusal. Some (name_message refusal.kind).words };
 
     fn fmt<W: fmt::Write>(&self, f: &mut fmt::Formatter<W>) -> fmt::Result {
         write!(f, "{}", self.kind.words())

@@ -199,6 +199,13 @@ impl ShortNames {
         self.shift - 2
     }
 
+    // Which part of the number of buckets the map may have: more where there are many, so that a table takes less memory.
+    fn part(&self) -> usize
+        ensures { 0 < result }
+    {
+        if self.shift <= MANY_BUCKETS { 4 } else { 8 }
+    }
+
     // The same by a table of more buckets.
     fn spread(&self, alloc: Global) -> Result<ShortNames, AllocError>
         requires { MOST_BUCKETS < self.now.shift }
@@ -216,7 +223,8 @@ impl ShortNames {
         Ok(names)
     }
 
-    /// Lets a number stand for this from now on. There are more buckets where the map has an eighth as many numbers.
+    /// Lets a number stand for this from now on. There are more buckets where the map has an eighth as many numbers, or a
+    /// quarter where there are many.
     ///
     /// # Errors
     ///
@@ -231,7 +239,7 @@ impl ShortNames {
             (found_short self.old.shift self.old.buckets.items self.old.others)
             (found_short self.new.shift self.new.buckets.items self.new.others)) }
     {
-        if self.buckets.len() / 8 <= self.others.len() && MOST_BUCKETS < self.shift {
+        if self.buckets.len() / self.part() <= self.others.len() && MOST_BUCKETS < self.shift {
             *self = self.spread(alloc)?;
         }
         self.put(number, meaning)

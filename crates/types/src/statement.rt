@@ -193,7 +193,7 @@ impl<'a, 'n> BodyScope<'a, 'n> {
     ///
     /// 301, 303, 305 and 403 in its label, 302 where its name is in scope already, then 301 and 401 to 403 in its first value; or
     /// out of memory.
-    #[tactic(auto, unfolding(crate::specs::Statements::declare_finding))]
+    #[tactic(auto, unfolding(crate::specs::Statements::statement_finding))]
     pub fn declare_scalar(
         &mut self,
         at: usize,
@@ -225,7 +225,7 @@ impl<'a, 'n> BodyScope<'a, 'n> {
     ///
     /// 301, 303, 305 and 403 in its label, 302 where its name is in scope already, then 703 where its length is not 1 to 65,536; or
     /// out of memory.
-    #[tactic(auto, unfolding(crate::specs::Statements::declare_array_finding))]
+    #[tactic(auto, unfolding(crate::specs::Statements::statement_finding))]
     pub fn declare_array(
         &mut self,
         at: usize,

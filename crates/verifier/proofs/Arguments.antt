@@ -1,7 +1,7 @@
 -- The arguments of a call are popped the last one first: whole blocks, and then one after another.
 use Rattle.std.proofs.Common.{◌≡◌, ℕ, ◌+◌, ◌<◌, zero, suc, ◌*◌, ◌-◌, ◌≤◌, ◌/◌, List, [], ◌∷◌, ◌++◌, length, map, reverse, take, drop, get_or, min, Some, refl, sym, ap, ◌∙◌, arith, length-append}
 use Rattle.std.proofs.lemmas.List.{length-reverse, length-take, reverse-append, take_min, take_more}
-use Rattle.modules.specs.Machine.{kinds_of}
+use Rattle.modules.specs.MachineParts.{kinds_of}
 use Rattle.common.specs.declared.base_type.BaseType.{BaseType}
 use Rattle.common.specs.declared.base_type.BaseType.TheVariants.{Int}
 use Rattle.modules.specs.declared.declaration.Slot.{Slot}

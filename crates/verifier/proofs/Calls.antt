@@ -5,14 +5,18 @@ use Rattle.std.proofs.lemmas.List.{reverse-append}
 use Rattle.modules.specs.Code.{width_of, instruction_at}
 use Rattle.modules.specs.Contents.{ProcedureContents, ModuleContents}
 use Rattle.modules.specs.Machine as machine
-use Rattle.modules.specs.Machine.{State, Caller, Machine, Running, Ended, Deep, Header, machine_code, header_of, code_of, position_after, kinds_of}
+use Rattle.modules.specs.MachineParts as pieces
+use Rattle.modules.specs.Machine.{State, Caller, Machine, Running, Ended, Deep, Header, machine_code, header_of}
+use Rattle.modules.specs.MachineParts.{code_of, position_after, kinds_of}
 use Rattle.modules.specs.Values.{kind_of, is_same_kind}
 use Rattle.modules.specs.declared.instruction.Instruction.TheVariants.{Call, Return, ReturnValue}
 use Rattle.common.specs.declared.base_type.BaseType.{BaseType}
 use Rattle.modules.specs.declared.value.Cell.{Cell}
 use Rattle.verifier.specs.Refusals.{IsNotRefused}
-use Rattle.verifier.specs.Flow.{Effect, Leaves, Misses, and_then, all_popped, effect, exchanged, pushed}
-use Rattle.verifier.specs.Signatures.{called, value_kinds}
+use Rattle.verifier.specs.Flow.{Effect, Leaves, Misses, and_then, all_popped, effect, exchanged}
+use Rattle.verifier.specs.SignatureParts.{pushed}
+use Rattle.verifier.specs.Signatures.{called}
+use Rattle.verifier.specs.SignatureParts.{value_kinds}
 use Rattle.verifier.specs.declared.fault.CodeRefusalKind.TheVariants.{OperandKind}
 use Rattle.verifier.proofs.Holds.{same_of, holds_first}
 use Rattle.verifier.proofs.Laws.{start_in_flow}
@@ -97,7 +101,7 @@ module _ (m : ModuleContents) (free : IsNotRefused m) (p : ProcedureContents) (s
             callers = inner callee p caller s.callers waits st.callers;
           })
 
-  pub calls_good : (number : ℕ) (callee : ProcedureContents) (after : List BaseType) → Stands m p s (Call number) (map kind_of s.frame.operands) → slice_get m.procedures number ≡ Some callee → effect m p (Call number) (map kind_of s.frame.operands) ≡ Leaves after → Good m (machine.calls (machine_code m) s number (slice_get (machine_code m).headers number))
+  pub calls_good : (number : ℕ) (callee : ProcedureContents) (after : List BaseType) → Stands m p s (Call number) (map kind_of s.frame.operands) → slice_get m.procedures number ≡ Some callee → effect m p (Call number) (map kind_of s.frame.operands) ≡ Leaves after → Good m (pieces.calls (machine_code m) s number (slice_get (machine_code m).headers number))
   calls_good number callee after st there e =
       let kinds = map kind_of s.frame.operands in
       let parameters = (header_of callee).parameters in
@@ -105,7 +109,7 @@ module _ (m : ModuleContents) (free : IsNotRefused m) (p : ProcedureContents) (s
       let popped_first = and_then_leaves (all_popped (map (λ kind. Some kind) (reverse parameters)) kinds) (λ rest. Leaves (pushed callee.returned rest)) after own in
       let all = pops (reverse parameters) [] s.frame.operands popped_first.0 popped_first.1.0 in
       let arguments_are : map kind_of all.arguments ≡ parameters = all.kinds_are ∙ append-nil (reverse (reverse parameters)) ∙ reverse-reverse parameters in
-      subst (λ o. Good m (machine.calls (machine_code m) s number o)) (sym (get_header m.procedures number callee there))
+      subst (λ o. Good m (pieces.calls (machine_code m) s number o)) (sym (get_header m.procedures number callee there))
       (subst (λ o. Good m (machine.enters (machine_code m) s number callee.slots o)) (sym all.popped)
       (enters_good callee number popped_first.0 st there (e ∙ sym popped_first.1.1) all.arguments all.left arguments_are all.rest_is))
 
@@ -119,10 +123,10 @@ module _ (m : ModuleContents) (free : IsNotRefused m) (p : ProcedureContents) (s
   own_of true e after h = (refl, h)
   own_of false e after h = absurd (let no : Misses OperandKind ≡ Leaves after = h in cc)
 
-  pub returns_good : (kinds after : List BaseType) → Stands m p s Return kinds → effect m p Return kinds ≡ Leaves after → Good m (machine.returns_nothing s (slice_get (machine_code m).headers s.frame.procedure))
+  pub returns_good : (kinds after : List BaseType) → Stands m p s Return kinds → effect m p Return kinds ≡ Leaves after → Good m (pieces.returns_nothing s (slice_get (machine_code m).headers s.frame.procedure))
   returns_good kinds after st e =
       let none = none_of p.returned (own_of (is_none p.returned) _ after e).0 in
-      subst (λ o. Good m (machine.returns_nothing s o)) (sym (get_header m.procedures s.frame.procedure p st.there))
+      subst (λ o. Good m (pieces.returns_nothing s o)) (sym (get_header m.procedures s.frame.procedure p st.there))
       (subst (λ o. Good m (machine.leaves_without s o)) (sym none) (leaves_good m free s st.globals p s.callers none st.callers))
 
   gives_good : (o : Option BaseType) (operands : List Cell) (after : List BaseType) → Stands m p s ReturnValue (map kind_of s.frame.operands) → p.returned ≡ o → is_some o ≡ true → and_then (all_popped (map (λ kind. Some kind) (value_kinds o)) (map kind_of operands)) (λ rest. Leaves rest) ≡ Leaves after → Good m (machine.gives_back s o operands)
@@ -131,11 +135,11 @@ module _ (m : ModuleContents) (free : IsNotRefused m) (p : ProcedureContents) (s
   gives_good (Some q) (x ∷ operands) after st is some e =
       let all = and_then_leaves (all_popped (Some q ∷ []) (kind_of x ∷ map kind_of operands)) (λ rest. Leaves rest) after e in
       let r = right_kind (is_same_kind q (kind_of x)) (map kind_of operands) all.0 (all_popped []) all.1.0 in
-      subst (λ (b : Bool). Good m (if b then machine.leaves_value s x s.callers else machine.stuck s)) (sym r.0)
+      subst (λ (b : Bool). Good m (if b then pieces.leaves_value s x s.callers else machine.stuck s)) (sym r.0)
       (value_good m free s x st.globals p s.callers (is ∙ ap (λ (k : BaseType). Some k) (same_of q (kind_of x) r.0)) st.callers)
 
-  pub gives_back_good : (after : List BaseType) → Stands m p s ReturnValue (map kind_of s.frame.operands) → effect m p ReturnValue (map kind_of s.frame.operands) ≡ Leaves after → Good m (machine.returns_value s (slice_get (machine_code m).headers s.frame.procedure))
+  pub gives_back_good : (after : List BaseType) → Stands m p s ReturnValue (map kind_of s.frame.operands) → effect m p ReturnValue (map kind_of s.frame.operands) ≡ Leaves after → Good m (pieces.returns_value s (slice_get (machine_code m).headers s.frame.procedure))
   gives_back_good after st e =
       let own = own_of (is_some p.returned) _ after e in
-      subst (λ o. Good m (machine.returns_value s o)) (sym (get_header m.procedures s.frame.procedure p st.there))
+      subst (λ o. Good m (pieces.returns_value s o)) (sym (get_header m.procedures s.frame.procedure p st.there))
       (gives_good p.returned s.frame.operands after st refl own.0 own.1)

@@ -9,7 +9,8 @@ use Rattle.modules.specs.declared.instruction.Instruction.TheVariants.{Jump, Ret
 use Rattle.common.specs.declared.base_type.BaseType.{BaseType}
 use Rattle.common.specs.declared.base_type.BaseType.TheVariants.{Int}
 use Rattle.verifier.specs.Depth.{IsMet, IsGreatestDepth, found, left}
-use Rattle.verifier.specs.Flow.{Effect, Leaves, Misses, all_popped, and_then, exchanged, next, pushed}
+use Rattle.verifier.specs.Flow.{Effect, Leaves, Misses, all_popped, and_then, exchanged, next}
+use Rattle.verifier.specs.SignatureParts.{pushed}
 use Rattle.verifier.specs.Signatures.{InstructionSignature, signature}
 use Rattle.modules.specs.Targets.{goes_on}
 use Rattle.verifier.specs.Operands.{greatest, list_of, IsShared}

@@ -30,13 +30,6 @@ module _ (m : ModuleContents) (number : ℕ) (procedure : ProcedureContents) whe
       ap (instruction_refusals m number procedure offset) (drop_more code k d h)
       ∙ ap (λ o. refusals_at number offset o ++ instruction_refusals m number procedure (offset + width_of (get_or code k d)) (drop (k + 1) code)) e
 
-  -- an instruction that is refused is the first refusal of what is left
-  pub first_instruction : (offset : ℕ) (code : List Instruction) (k : ℕ) (d : Instruction) (wrong : CodeRefusalKind) → k < length code → instruction_refusal m procedure (get_or code k d) ≡ Some wrong → slice_get (instruction_refusals m number procedure offset (drop k code)) 0 ≡ Some (record { kind = wrong; procedure = number; offset = offset })
-  first_instruction offset code k d wrong h e =
-      ap (λ refusals. slice_get refusals 0)
-      (ap (instruction_refusals m number procedure offset) (drop_more code k d h)
-      ∙ ap (λ o. refusals_at number offset o ++ instruction_refusals m number procedure (offset + width_of (get_or code k d)) (drop (k + 1) code)) e)
-
   -- ---- the loop over handlers
 
   pub handlers_on : (handlers : List Handler) (k : ℕ) (d : Handler) → k < length handlers → handler_refusal m procedure (get_or handlers k d) ≡ None → handler_refusals m number procedure (drop k handlers) ≡ handler_refusals m number procedure (drop (k + 1) handlers)

@@ -8,7 +8,8 @@ use Rattle.modules.specs.Code.{code_length, instruction_at}
 use Rattle.common.specs.declared.base_type.BaseType.{BaseType}
 use Rattle.modules.specs.declared.instruction.Instruction.{Instruction}
 use Rattle.verifier.specs.declared.fault.CodeRefusalKind.{CodeRefusalKind}
-use Rattle.verifier.specs.Flow.{Edge, Flow, starts, grows, nowhere, effect, Misses, IsRefusedForOperands, misses, meets, falls, FlowsWell, between}
+use Rattle.verifier.specs.Flow.{Edge, Flow, starts, grows, effect, Misses, IsRefusedForOperands, misses, meets, falls, FlowsWell, between}
+use Rattle.verifier.specs.SignatureParts.{nowhere}
 use Rattle.common.specs.declared.base_type.BaseType.TheVariants.{Int, Boolean}
 use Rattle.verifier.specs.declared.fault.CodeRefusalKind.TheVariants.{FallsOffEnd}
 

@@ -1,6 +1,7 @@
 pub mod Arguments
 pub mod Bounds
 pub mod Calls
+pub mod Stuck
 pub mod FixedRefusals
 pub mod Holds
 pub mod Indices

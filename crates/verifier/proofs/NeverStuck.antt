@@ -5,7 +5,8 @@ use Rattle.std.proofs.lemmas.Bool.{and_parts}
 use Rattle.modules.specs.Code.{instruction_at}
 use Rattle.modules.specs.Contents.{ProcedureContents, ModuleContents}
 use Rattle.modules.specs.Machine as machine
-use Rattle.modules.specs.Machine.{State, Machine, Running, Ended, Stuck, machine_code, header_of, code_of, slots_of, declared_at, cells_at, with_cells_at, slots_in, first_state, first_slots, act, acts, step, exec, after_steps}
+use Rattle.modules.specs.Machine.{State, Machine, Running, Ended, Stuck, machine_code, header_of, declared_at, cells_at, with_cells_at, first_state, first_slots, act, step, exec, after_steps}
+use Rattle.modules.specs.MachineParts.{code_of, slots_of, slots_in, acts}
 use Rattle.modules.specs.Format.{may_start}
 use Rattle.modules.specs.Values.{kind_of, kind_of_slot}
 use Rattle.modules.specs.declared.instruction.Instruction.{Instruction}
@@ -18,11 +19,14 @@ use Rattle.modules.specs.declared.value.Cell.TheVariants as cell
 use Rattle.modules.specs.declared.declaration.Slot.{Slot}
 use Rattle.verifier.specs.Refusals.{IsNotRefused}
 use Rattle.verifier.specs.Fixed.{instruction_refusal}
-use Rattle.verifier.specs.Flow.{Edge, next, jumps, caught, Flow, starts, grows, nowhere, Effect, Leaves, Misses, and_then, effect}
+use Rattle.verifier.specs.Flow.{Edge, next, jumps, caught, Flow, starts, grows, Effect, Leaves, Misses, and_then, effect}
+use Rattle.verifier.specs.SignatureParts.{nowhere}
 use Rattle.verifier.specs.Signatures.{declared_in, is_array, is_input, is_output, is_scalar, slot_kind}
-use Rattle.verifier.specs.Safety.{HasTransition, IsNeverStuck}
+use Rattle.verifier.specs.Safety.{IsNeverStuck}
+use Rattle.verifier.specs.SignatureParts.{HasTransition}
 use Rattle.verifier.specs.Boundaries.{IsBoundary, KeepsBoundaries}
 use Rattle.verifier.specs.declared.fault.CodeRefusalKind.TheVariants.{SlotOrIndex}
+use Rattle.verifier.proofs.Stuck.{not_stuck}
 use Rattle.verifier.proofs.Bounds.{IsBounded}
 use Rattle.verifier.proofs.Calls.{get_header, calls_good, returns_good, gives_back_good}
 use Rattle.verifier.proofs.FixedRefusals.{all_right, boundaries, right_of_unless}
@@ -197,4 +201,4 @@ good_after m bounded free world n =
     exec_good m free n (Running (first_state m world)) first
 
 pub never_stuck : (m : ModuleContents) → IsBounded m → IsNotRefused m → IsNeverStuck m
-never_stuck m bounded free = λ world n. good_transition m (after_steps m world n) (good_after m bounded free world n)
+never_stuck m bounded free = λ world n. not_stuck (after_steps m world n) (good_transition m (after_steps m world n) (good_after m bounded free world n))

@@ -17,7 +17,8 @@ use Rattle.modules.specs.declared.declaration.Handler.{Handler}
 use Rattle.modules.specs.declared.instruction.Instruction.{Instruction}
 use Rattle.verifier.specs.declared.fault.CodeRefusalKind.{CodeRefusalKind}
 use Rattle.modules.specs.Targets.{goes_on, target_of}
-use Rattle.verifier.specs.Flow.{Edge, next, jumps, caught, Flow, starts, nowhere, grows, misses, meets, falls, IsRefusedForOperands, FlowsWell, between, effect, all_popped, pushed, exchanged, and_then, Leaves, Misses}
+use Rattle.verifier.specs.Flow.{Edge, next, jumps, caught, Flow, starts, grows, misses, meets, falls, IsRefusedForOperands, FlowsWell, between, effect, all_popped, exchanged, and_then, Leaves, Misses}
+use Rattle.verifier.specs.SignatureParts.{nowhere, pushed}
 use Rattle.verifier.specs.Signatures.{signature}
 use Rattle.verifier.specs.Operands.{list_of, IsLonger}
 use Rattle.verifier.specs.Boundaries.{IsBoundary, KeepsBoundaries}

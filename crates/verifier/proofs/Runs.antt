@@ -8,7 +8,8 @@ use Rattle.std.proofs.lemmas.Bool.Decides.{nat_tests}
 use Rattle.modules.specs.Code.{width_of, instruction_at}
 use Rattle.modules.specs.Contents.{ProcedureContents, ModuleContents}
 use Rattle.modules.specs.Machine as machine
-use Rattle.modules.specs.Machine.{State, Frame, Caller, Machine, Running, Ended, Stuck, Finished, Threw, Deep, machine_code, header_of, code_of, handlers_of, handler_for, position_after, handled, unwound, raised, leaves, leaves_value, new_frame, slots_of, slot_of}
+use Rattle.modules.specs.Machine.{State, Frame, Caller, Machine, Running, Ended, Stuck, Finished, Threw, Deep, machine_code, header_of, handler_for, handled, unwound, raised, new_frame, slot_of}
+use Rattle.modules.specs.MachineParts.{code_of, handlers_of, position_after, leaves, leaves_value}
 use Rattle.modules.specs.Values.{kind_of}
 use Rattle.modules.specs.declared.instruction.Instruction.{Instruction}
 use Rattle.modules.specs.declared.instruction.Instruction.TheVariants.{Call}
@@ -17,7 +18,8 @@ use Rattle.modules.specs.declared.value.Cell.{Cell}
 use Rattle.modules.specs.declared.declaration.Handler.{Handler}
 use Rattle.verifier.specs.Refusals.{IsNotRefused}
 use Rattle.modules.specs.Targets.{goes_on, target_of}
-use Rattle.verifier.specs.Flow.{next, jumps, caught, Leaves, effect, pushed, FlowsWell}
+use Rattle.verifier.specs.Flow.{next, jumps, caught, Leaves, effect, FlowsWell}
+use Rattle.verifier.specs.SignatureParts.{pushed}
 use Rattle.verifier.proofs.Holds.{Holds}
 use Rattle.verifier.proofs.Laws.{IsInFlow, along_in_flow}
 

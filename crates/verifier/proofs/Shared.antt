@@ -163,52 +163,42 @@ link_more lists links n link long h below list depth few bits skip skips k d l =
           })
     ]
 
-differ_int : Int ≢ Boolean
-differ_int e = cc
+differ : Int ≢ Boolean
+differ e = cc
 
-differ_boolean : Boolean ≢ Int
-differ_boolean e = cc
+-- what is noted of a kind, of the lists with one more
+above_longer : (q : BaseType) (lists : List (List BaseType)) (kind : BaseType) (below : ℕ) → below < length lists → ((k : ℕ) → k < length lists → list_of lists k ≢ kind ∷ list_of lists below) → (above noted : List (Option ℕ)) → (kind ≡ q → noted ≡ set (above ++ None ∷ []) below (Some (length lists))) → (kind ≢ q → noted ≡ above ++ None ∷ []) → HasTails lists → ((a b : ℕ) → a < length lists → b < length lists → list_of lists a ≡ list_of lists b → a ≡ b) → HasAbove q lists above → HasAbove q (lists ++ (kind ∷ list_of lists below) ∷ []) noted
+above_longer Int lists Int below there fresh above noted same other tails distinct h = subst (HasAbove Int (lists ++ (Int ∷ list_of lists below) ∷ [])) (sym (same refl)) (above_same lists Int below there fresh above tails distinct h)
+above_longer Boolean lists Boolean below there fresh above noted same other tails distinct h = subst (HasAbove Boolean (lists ++ (Boolean ∷ list_of lists below) ∷ [])) (sym (same refl)) (above_same lists Boolean below there fresh above tails distinct h)
+above_longer Int lists Boolean below there fresh above noted same other tails distinct h = subst (HasAbove Int (lists ++ (Boolean ∷ list_of lists below) ∷ [])) (sym (other (λ e. differ (sym e)))) (above_other lists Boolean below there fresh Int above (λ e. differ (sym e)) tails h)
+above_longer Boolean lists Int below there fresh above noted same other tails distinct h = subst (HasAbove Boolean (lists ++ (Int ∷ list_of lists below) ∷ [])) (sym (other differ)) (above_other lists Int below there fresh Boolean above differ tails h)
 
-module _ (first : List (List BaseType)) (links more_links : List Link) (ints more_ints booleans more_booleans : List (Option ℕ)) (below depth bits skip number : ℕ) where
-  pub shared_int : IsShared (spelled first links) links ints booleans → (kind : BaseType) → kind ≡ Int → below < length (spelled first links) → ((k : ℕ) → k < length (spelled first links) → list_of (spelled first links) k ≢ kind ∷ list_of (spelled first links) below) → depth ≡ length (list_of (spelled first links) below) + 1 → depth ≤ below + 1 → bits ≡ packed 64 (kind ∷ list_of (spelled first links) below) → list_of (spelled first links) skip ≡ drop 63 (list_of (spelled first links) below) → skip < length (spelled first links) → number ≡ length links → more_links ≡ links ++ record { kind = kind; below = below; depth = depth; bits = bits; skip = skip } ∷ [] → more_ints ≡ ints ++ None ∷ [] → more_booleans ≡ booleans ++ None ∷ [] → IsShared (spelled first more_links) more_links (set more_ints below (Some (number + 1))) more_booleans
-  shared_int s kind is there fresh deep few bits_are skip_is skip_there count el ei eb =
+module _ (first : List (List BaseType)) (links more_links : List Link) (ints more_ints new_ints booleans more_booleans new_booleans : List (Option ℕ)) (below depth bits skip number : ℕ) where
+  pub shared_longer : IsShared (spelled first links) links ints booleans → (kind : BaseType) → below < length (spelled first links) → ((k : ℕ) → k < length (spelled first links) → list_of (spelled first links) k ≢ kind ∷ list_of (spelled first links) below) → depth ≡ length (list_of (spelled first links) below) + 1 → depth ≤ below + 1 → bits ≡ packed 64 (kind ∷ list_of (spelled first links) below) → list_of (spelled first links) skip ≡ drop 63 (list_of (spelled first links) below) → skip < length (spelled first links) → number ≡ length links → more_links ≡ links ++ record { kind = kind; below = below; depth = depth; bits = bits; skip = skip } ∷ [] → more_ints ≡ ints ++ None ∷ [] → more_booleans ≡ booleans ++ None ∷ [] → (kind ≡ Int → (new_ints ≡ set more_ints below (Some (number + 1))) × (new_booleans ≡ more_booleans)) → (kind ≡ Boolean → (new_ints ≡ more_ints) × (new_booleans ≡ set more_booleans below (Some (number + 1)))) → IsShared (spelled first more_links) more_links new_ints new_booleans
+  shared_longer s kind there fresh deep few bits_are skip_is skip_there count el ei eb at_int at_boolean =
       let n : List BaseType = kind ∷ list_of (spelled first links) below in
       let link : Link = record { kind = kind; below = below; depth = depth; bits = bits; skip = skip } in
-      let number_is : length (spelled first links) ≡ number + 1 = omega (arith, s.long) in
+      let number_is : number + 1 ≡ length (spelled first links) = omega (arith, s.long) in
       let lists_are : spelled first links ++ n ∷ [] ≡ spelled first more_links = sym (ap (spelled first) el ∙ spelled_push first links link) in
-      let shared : IsShared (spelled first links ++ n ∷ []) (links ++ link ∷ []) (set (ints ++ None ∷ []) below (Some (length (spelled first links)))) (booleans ++ None ∷ []) = record {
+      let noted : (above more : List (Option ℕ)) → more ≡ above ++ None ∷ [] → set more below (Some (number + 1)) ≡ set (above ++ None ∷ []) below (Some (length (spelled first links))) = λ above more e. ap (λ l. set l below (Some (number + 1))) e ∙ ap (λ l. set (above ++ None ∷ []) below (Some l)) number_is in
+      let tails = tails_of (spelled first links) links ints booleans s in
+      let shared : IsShared (spelled first links ++ n ∷ []) (links ++ link ∷ []) new_ints new_booleans = record {
         root = old (spelled first links) n 0 (omega arith) ∙ s.root;
         long = omega (arith, longer_one (spelled first links) n, length-append links (link ∷ []), s.long);
         link = λ k d l. link_more (spelled first links) links n link s.long s.link there refl (deep ∙ (omega arith)) (omega arith) bits_are skip_is skip_there k d (omega (arith, l, length-append links (link ∷ [])));
-        int_above = subst (λ q. HasAbove q (spelled first links ++ n ∷ []) (set (ints ++ None ∷ []) below (Some (length (spelled first links))))) is (above_same (spelled first links) kind below there fresh ints (tails_of (spelled first links) links ints booleans s) s.distinct (subst (λ q. HasAbove q (spelled first links) ints) (sym is) s.int_above));
-        boolean_above = above_other (spelled first links) kind below there fresh Boolean booleans (λ e. differ_int (sym is ∙ e)) (tails_of (spelled first links) links ints booleans s) s.boolean_above;
+        int_above = above_longer Int (spelled first links) kind below there fresh ints new_ints (λ e. (at_int e).0 ∙ noted ints more_ints ei) (λ ne. (at_boolean (the_other kind ne)).0 ∙ ei) tails s.distinct s.int_above;
+        boolean_above = above_longer Boolean (spelled first links) kind below there fresh booleans new_booleans (λ e. (at_boolean e).1 ∙ noted booleans more_booleans eb) (λ ne. (at_int (the_one kind ne)).1 ∙ eb) tails s.distinct s.boolean_above;
         distinct = λ a b la lb. distinct_more (spelled first links) kind below there fresh s.distinct a b (omega (arith, la, longer_one (spelled first links) n)) (omega (arith, lb, longer_one (spelled first links) n));
       } in
-      subst (λ l. IsShared (spelled first more_links) l (set more_ints below (Some (number + 1))) more_booleans) (sym el)
-      (subst (λ l. IsShared (spelled first more_links) (links ++ link ∷ []) (set l below (Some (number + 1))) more_booleans) (sym ei)
-      (subst (λ l. IsShared (spelled first more_links) (links ++ link ∷ []) (set (ints ++ None ∷ []) below (Some (number + 1))) l) (sym eb)
-      (subst (λ l. IsShared l (links ++ link ∷ []) (set (ints ++ None ∷ []) below (Some (number + 1))) (booleans ++ None ∷ [])) lists_are
-      (subst (λ l. IsShared (spelled first links ++ n ∷ []) (links ++ link ∷ []) (set (ints ++ None ∷ []) below (Some l)) (booleans ++ None ∷ [])) number_is shared))))
+      subst (λ l. IsShared (spelled first more_links) l new_ints new_booleans) (sym el) (subst (λ l. IsShared l (links ++ link ∷ []) new_ints new_booleans) lists_are shared)
+    where
+      the_other : (kind : BaseType) → kind ≢ Int → kind ≡ Boolean
+      the_other Int ne = absurd (ne refl)
+      the_other Boolean ne = refl
 
-  pub shared_boolean : IsShared (spelled first links) links ints booleans → (kind : BaseType) → kind ≡ Boolean → below < length (spelled first links) → ((k : ℕ) → k < length (spelled first links) → list_of (spelled first links) k ≢ kind ∷ list_of (spelled first links) below) → depth ≡ length (list_of (spelled first links) below) + 1 → depth ≤ below + 1 → bits ≡ packed 64 (kind ∷ list_of (spelled first links) below) → list_of (spelled first links) skip ≡ drop 63 (list_of (spelled first links) below) → skip < length (spelled first links) → number ≡ length links → more_links ≡ links ++ record { kind = kind; below = below; depth = depth; bits = bits; skip = skip } ∷ [] → more_ints ≡ ints ++ None ∷ [] → more_booleans ≡ booleans ++ None ∷ [] → IsShared (spelled first more_links) more_links more_ints (set more_booleans below (Some (number + 1)))
-  shared_boolean s kind is there fresh deep few bits_are skip_is skip_there count el ei eb =
-      let n : List BaseType = kind ∷ list_of (spelled first links) below in
-      let link : Link = record { kind = kind; below = below; depth = depth; bits = bits; skip = skip } in
-      let number_is : length (spelled first links) ≡ number + 1 = omega (arith, s.long) in
-      let lists_are : spelled first links ++ n ∷ [] ≡ spelled first more_links = sym (ap (spelled first) el ∙ spelled_push first links link) in
-      let shared : IsShared (spelled first links ++ n ∷ []) (links ++ link ∷ []) (ints ++ None ∷ []) (set (booleans ++ None ∷ []) below (Some (length (spelled first links)))) = record {
-        root = old (spelled first links) n 0 (omega arith) ∙ s.root;
-        long = omega (arith, longer_one (spelled first links) n, length-append links (link ∷ []), s.long);
-        link = λ k d l. link_more (spelled first links) links n link s.long s.link there refl (deep ∙ (omega arith)) (omega arith) bits_are skip_is skip_there k d (omega (arith, l, length-append links (link ∷ [])));
-        boolean_above = subst (λ q. HasAbove q (spelled first links ++ n ∷ []) (set (booleans ++ None ∷ []) below (Some (length (spelled first links))))) is (above_same (spelled first links) kind below there fresh booleans (tails_of (spelled first links) links ints booleans s) s.distinct (subst (λ q. HasAbove q (spelled first links) booleans) (sym is) s.boolean_above));
-        int_above = above_other (spelled first links) kind below there fresh Int ints (λ e. differ_boolean (sym is ∙ e)) (tails_of (spelled first links) links ints booleans s) s.int_above;
-        distinct = λ a b la lb. distinct_more (spelled first links) kind below there fresh s.distinct a b (omega (arith, la, longer_one (spelled first links) n)) (omega (arith, lb, longer_one (spelled first links) n));
-      } in
-      subst (λ l. IsShared (spelled first more_links) l more_ints (set more_booleans below (Some (number + 1)))) (sym el)
-      (subst (λ l. IsShared (spelled first more_links) (links ++ link ∷ []) l (set more_booleans below (Some (number + 1)))) (sym ei)
-      (subst (λ l. IsShared (spelled first more_links) (links ++ link ∷ []) (ints ++ None ∷ []) (set l below (Some (number + 1)))) (sym eb)
-      (subst (λ l. IsShared l (links ++ link ∷ []) (ints ++ None ∷ []) (set (booleans ++ None ∷ []) below (Some (number + 1)))) lists_are
-      (subst (λ l. IsShared (spelled first links ++ n ∷ []) (links ++ link ∷ []) (ints ++ None ∷ []) (set (booleans ++ None ∷ []) below (Some l))) number_is shared))))
+      the_one : (kind : BaseType) → kind ≢ Boolean → kind ≡ Int
+      the_one Int ne = refl
+      the_one Boolean ne = absurd (ne refl)
 
 -- the lists after a push
 pub pushed : (first lists : List (List BaseType)) (links more_links : List Link) (kind : BaseType) (below depth bits skip number : ℕ) → spelled first links ≡ lists → length lists ≡ length links + 1 → number ≡ length links → more_links ≡ links ++ record { kind = kind; below = below; depth = depth; bits = bits; skip = skip } ∷ [] → (spelled first more_links ≡ lists ++ (kind ∷ list_of lists below) ∷ []) × (length (spelled first more_links) ≡ length lists + 1) × (list_of (spelled first more_links) (number + 1) ≡ kind ∷ list_of lists below) × ((k : ℕ) → length lists ≤ k → k < length (spelled first more_links) → list_of (spelled first more_links) k ≡ kind ∷ list_of lists below)

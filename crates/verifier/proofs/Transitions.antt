@@ -3,7 +3,9 @@ use Rattle.common.specs.Functions.{updated}
 use Rattle.std.proofs.Common.{◌≡◌, ℕ, Bool, true, false, if◌then◌else◌, List, [], ◌∷◌, ◌++◌, map, replicate, Option, Some, None, refl, sym, ap, ◌∙◌, subst, ℤ}
 use Rattle.modules.specs.Contents.{ProcedureContents, ModuleContents}
 use Rattle.modules.specs.Machine as machine
-use Rattle.modules.specs.Machine.{State, Caller, Machine, Running, Ended, Stuck, Deep, Header, machine_code, header_of, code_of, slots_of, slot_at, with_slot, with_global, element_at, with_element, first_slots, kinds_of}
+use Rattle.modules.specs.MachineParts as pieces
+use Rattle.modules.specs.Machine.{State, Caller, Machine, Running, Ended, Stuck, Deep, Header, machine_code, header_of, slot_at, element_at, with_element, first_slots}
+use Rattle.modules.specs.MachineParts.{code_of, slots_of, with_slot, with_global, kinds_of}
 use Rattle.common.specs.declared.exceptions.TheConstants.{ARITH, BOUNDS, END}
 use Rattle.modules.specs.Values.{kind_of, zero_of, is_same_kind}
 use Rattle.modules.specs.Operators.{OperatorFunction, ValueOf, applied, cell_of, operated, rule_of}
@@ -75,10 +77,10 @@ module _ (m : ModuleContents) (free : IsNotRefused m) (p : ProcedureContents) (i
 
   -- ---- arrays
 
-  pub found_good : (s : State) (kinds after : List BaseType) (operands : List Cell) (q : BaseType) (cells : List Cell) (n : ℤ) → Stands m p s i kinds → effect m p i kinds ≡ Leaves after → goes_on i ≡ true → AllOf q cells → after ≡ q ∷ map kind_of operands → Good m (machine.found (machine_code m) s operands (element_at cells n))
+  pub found_good : (s : State) (kinds after : List BaseType) (operands : List Cell) (q : BaseType) (cells : List Cell) (n : ℤ) → Stands m p s i kinds → effect m p i kinds ≡ Leaves after → goes_on i ≡ true → AllOf q cells → after ≡ q ∷ map kind_of operands → Good m (pieces.found (machine_code m) s operands (element_at cells n))
   found_good s kinds after operands q cells n st e goes all leaves = split (element_at cells n) refl
     where
-      split : (o : Option Cell) → element_at cells n ≡ o → Good m (machine.found (machine_code m) s operands o)
+      split : (o : Option Cell) → element_at cells n ≡ o → Good m (pieces.found (machine_code m) s operands o)
       split None is = raised_good m free p s i kinds BOUNDS st
       split (Some x) is = next_good m free p s i kinds after (x ∷ operands) st e goes (ap (λ k. k ∷ map kind_of operands) (element_kind q cells n x all is) ∙ sym leaves)
 
@@ -90,10 +92,10 @@ module _ (m : ModuleContents) (free : IsNotRefused m) (p : ProcedureContents) (i
   loads_element_good s (Some (slot.Array q count)) cells (cell.Int n ∷ operands) after st e goes array all pops =
       found_good s (map kind_of (cell.Int n ∷ operands)) after operands q cells n st e goes all (sym (leaves_same (q ∷ map kind_of operands) after pops))
 
-  pub changes_good : (s : State) (put : List Cell → State) (kinds after : List BaseType) (operands : List Cell) (q : BaseType) (cells : List Cell) (n : ℤ) (x : Cell) → Stands m p s i kinds → ((new : List Cell) → AllOf q new → Stands m p (put new) i kinds) → effect m p i kinds ≡ Leaves after → goes_on i ≡ true → AllOf q cells → kind_of x ≡ q → after ≡ map kind_of operands → Good m (machine.changes (machine_code m) s put operands (with_element cells n x))
+  pub changes_good : (s : State) (put : List Cell → State) (kinds after : List BaseType) (operands : List Cell) (q : BaseType) (cells : List Cell) (n : ℤ) (x : Cell) → Stands m p s i kinds → ((new : List Cell) → AllOf q new → Stands m p (put new) i kinds) → effect m p i kinds ≡ Leaves after → goes_on i ≡ true → AllOf q cells → kind_of x ≡ q → after ≡ map kind_of operands → Good m (pieces.changes (machine_code m) s put operands (with_element cells n x))
   changes_good s put kinds after operands q cells n x st stands e goes all is leaves = split (with_element cells n x) refl
     where
-      split : (o : Option (List Cell)) → with_element cells n x ≡ o → Good m (machine.changes (machine_code m) s put operands o)
+      split : (o : Option (List Cell)) → with_element cells n x ≡ o → Good m (pieces.changes (machine_code m) s put operands o)
       split None w = raised_good m free p s i kinds BOUNDS st
       split (Some new) w = next_good m free p (put new) i kinds after operands (stands new (with_element_kind q cells n x new all is w)) e goes (sym leaves)
 
@@ -107,7 +109,7 @@ module _ (m : ModuleContents) (free : IsNotRefused m) (p : ProcedureContents) (i
       absurd (let r = right_kind (is_same_kind q (kind_of x)) (kind.Boolean ∷ map kind_of operands) after (all_popped (Some kind.Int ∷ [])) pops in let no : Misses OperandKind ≡ Leaves after = r.1 in cc)
   stores_element_good s put (Some (slot.Array q count)) cells (x ∷ cell.Int n ∷ operands) after st stands e goes array all pops =
       let r = right_kind (is_same_kind q (kind_of x)) (kind.Int ∷ map kind_of operands) after (all_popped (Some kind.Int ∷ [])) pops in
-      subst (λ (b : Bool). Good m (if b then machine.changes (machine_code m) s put operands (with_element cells n x) else machine.stuck s)) (sym r.0)
+      subst (λ (b : Bool). Good m (if b then pieces.changes (machine_code m) s put operands (with_element cells n x) else machine.stuck s)) (sym r.0)
       (changes_good s put (map kind_of (x ∷ cell.Int n ∷ operands)) after operands q cells n x st stands e goes all (sym (same_of q (kind_of x) r.0)) (sym (leaves_same (map kind_of operands) after r.1)))
 
   pub clears_good : (s : State) (k : ℕ) (o : Option Slot) (after : List BaseType) → Stands m p s i (map kind_of s.frame.operands) → ((new : List Cell) → AllOf (slot_kind o) new → Stands m p (with_slot s k new) i (map kind_of s.frame.operands)) → effect m p i (map kind_of s.frame.operands) ≡ Leaves after → goes_on i ≡ true → is_array o ≡ true → map kind_of s.frame.operands ≡ after → Good m (machine.clears (machine_code m) s k o)
@@ -149,12 +151,12 @@ module _ (m : ModuleContents) (free : IsNotRefused m) (p : ProcedureContents) (i
   sends_good s channel (Some Output) (cell.Int n ∷ operands) after st e goes output pops =
       next_good m free p (record s { sent = s.sent ++ record { channel = channel; number = n } ∷ [] }) i (map kind_of (cell.Int n ∷ operands)) after operands (record { there = st.there; instruction = st.instruction; flow = st.flow; slots = st.slots; globals = st.globals; callers = st.callers }) e goes (leaves_same (map kind_of operands) after pops)
 
-  pub takes_good : (s : State) (channel : ℕ) (numbers : List ℤ) (after : List BaseType) → Stands m p s i (map kind_of s.frame.operands) → effect m p i (map kind_of s.frame.operands) ≡ Leaves after → goes_on i ≡ true → after ≡ kind.Int ∷ map kind_of s.frame.operands → Good m (machine.takes (machine_code m) s channel numbers)
+  pub takes_good : (s : State) (channel : ℕ) (numbers : List ℤ) (after : List BaseType) → Stands m p s i (map kind_of s.frame.operands) → effect m p i (map kind_of s.frame.operands) ≡ Leaves after → goes_on i ≡ true → after ≡ kind.Int ∷ map kind_of s.frame.operands → Good m (pieces.takes (machine_code m) s channel numbers)
   takes_good s channel [] after st e goes is = raised_good m free p s i (map kind_of s.frame.operands) END st
   takes_good s channel (n ∷ numbers) after st e goes is =
       next_good m free p (record s { rest = updated s.rest channel numbers }) i (map kind_of s.frame.operands) after (cell.Int n ∷ s.frame.operands) (record { there = st.there; instruction = st.instruction; flow = st.flow; slots = st.slots; globals = st.globals; callers = st.callers }) e goes (sym is)
 
-  pub receives_good : (s : State) (channel : ℕ) (o : Option Direction) (after : List BaseType) → Stands m p s i (map kind_of s.frame.operands) → effect m p i (map kind_of s.frame.operands) ≡ Leaves after → goes_on i ≡ true → is_input o ≡ true → after ≡ kind.Int ∷ map kind_of s.frame.operands → Good m (machine.receives (machine_code m) s channel o)
+  pub receives_good : (s : State) (channel : ℕ) (o : Option Direction) (after : List BaseType) → Stands m p s i (map kind_of s.frame.operands) → effect m p i (map kind_of s.frame.operands) ≡ Leaves after → goes_on i ≡ true → is_input o ≡ true → after ≡ kind.Int ∷ map kind_of s.frame.operands → Good m (pieces.receives (machine_code m) s channel o)
   receives_good s channel None after st e goes input is = absurd (let no : false ≡ true = input in cc)
   receives_good s channel (Some Output) after st e goes input is = absurd (let no : false ≡ true = input in cc)
   receives_good s channel (Some Input) after st e goes input is = takes_good s channel (s.rest channel) after st e goes is

@@ -8,7 +8,7 @@ use Rattle.modules.specs.declared.instruction.Instruction.TheVariants.{Call}
 use Rattle.common.specs.declared.base_type.BaseType.{BaseType}
 use Rattle.verifier.specs.Depth.{IsMet, IsWithinDepth, FramesAreWithin, IsNeverDeeper, found, left}
 use Rattle.verifier.specs.Refusals.{IsNotRefused}
-use Rattle.verifier.specs.Flow.{pushed}
+use Rattle.verifier.specs.SignatureParts.{pushed}
 use Rattle.verifier.proofs.Bounds.{IsBounded}
 use Rattle.verifier.proofs.NeverStuck.{good_after}
 use Rattle.verifier.proofs.Runs.{Callers, outermost, inner, Good, runs, over, Waits}

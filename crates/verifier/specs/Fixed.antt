@@ -3,12 +3,13 @@
 -- Source: our own; the rules are those of a bytecode verifier, as that of the Java virtual machine.
 use Rattle.std.specs.Prelude.{ℕ, ◌+◌, ◌==◌, nat_lt, Bool, true, ◌&&◌, ◌||◌, if◌then◌else◌, List, [], ◌∷◌, ◌++◌, Option, Some, None, is_some}
 use Rattle.std.specs.List.{flat_map}
+use Rattle.std.specs.Option.{option_map_or}
 use Rattle.modules.specs.Contents.{ProcedureContents, ModuleContents}
 use Rattle.modules.specs.Code.{width_of, code_length, instruction_at}
 use Rattle.modules.specs.Machine.{machine_code}
 use Rattle.modules.specs.declared.instruction.Instruction.{Instruction}
 use Rattle.modules.specs.declared.declaration.Handler.{Handler}
-use Rattle.modules.specs.Targets.{target_of}
+use Rattle.modules.specs.Opcodes.{entry_of}
 use Rattle.verifier.specs.Signatures.{signature}
 use Rattle.verifier.specs.declared.fault.CodeRefusalKind.{CodeRefusalKind}
 use Rattle.verifier.specs.declared.fault.CodeRefusalKind.TheVariants as kind
@@ -21,16 +22,11 @@ is_start procedure offset = is_some (instruction_at procedure.code offset)
 abbrev pub unless : Bool → CodeRefusalKind → Option CodeRefusalKind
 unless right wrong = if right then None else Some wrong
 
--- whether a target is an instruction's first byte, where there is one
-abbrev pub is_right_target : ProcedureContents → Option ℕ → Bool
-is_right_target procedure None = true
-is_right_target procedure (Some target) = is_start procedure target
-
 -- what is wrong with an instruction by itself: a target that is no instruction's first byte, or a slot, global, array,
 -- procedure, channel or exception that is not there or of another sort
 abbrev pub instruction_refusal : ModuleContents → ProcedureContents → Instruction → Option CodeRefusalKind
 instruction_refusal m procedure instruction =
-    if is_right_target procedure (target_of instruction)
+    if option_map_or (is_start procedure) (entry_of instruction).target true
     then unless (signature m procedure instruction).there kind.SlotOrIndex
     else Some kind.Jump
 
@@ -54,8 +50,7 @@ handler_refusal m procedure handler =
 
 -- the refusal of a procedure at an offset, if it is refused there
 abbrev pub refusals_at : ℕ → ℕ → Option CodeRefusalKind → List CodeRefusal
-refusals_at number offset None = []
-refusals_at number offset (Some wrong) = record { kind = wrong; procedure = number; offset = offset } ∷ []
+refusals_at number offset wrong = option_map_or (λ kind. record { kind = kind; procedure = number; offset = offset } ∷ []) wrong []
 
 -- the refusals of instructions that stand from an offset on
 abbrev pub instruction_refusals : ModuleContents → ℕ → ProcedureContents → ℕ → List Instruction → List CodeRefusal

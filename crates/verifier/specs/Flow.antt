@@ -4,9 +4,10 @@
 use Rattle.common.specs.Functions.{updated}
 use Rattle.std.specs.Prelude.{◌≡◌, ◌≢◌, ℕ, ◌+◌, ◌≤◌, ◌<◌, ◌==◌, true, if◌then◌else◌, List, [], ◌∷◌, length, Option, Some, None}
 use Rattle.std.specs.List.{Contains}
+use Rattle.std.specs.Option.{option_map_or}
 use Rattle.modules.specs.Contents.{ProcedureContents, ModuleContents}
 use Rattle.modules.specs.Code.{width_of, code_length, instruction_at}
-use Rattle.modules.specs.Targets.{goes_on, target_of}
+use Rattle.modules.specs.Opcodes.{entry_of}
 use Rattle.modules.specs.Values.{is_same_kind}
 use Rattle.modules.specs.declared.instruction.Instruction.{Instruction}
 use Rattle.common.specs.declared.base_type.BaseType.{BaseType}
@@ -36,13 +37,9 @@ abbrev pub all_popped : List (Option BaseType) → List BaseType → Effect
 all_popped [] kinds = Leaves kinds
 all_popped (wanted ∷ more) kinds = and_then (popped wanted kinds) (all_popped more)
 
-abbrev pub pushed : Option BaseType → List BaseType → List BaseType
-pushed None kinds = kinds
-pushed (Some kind) kinds = kind ∷ kinds
-
 -- pop, then push
 abbrev pub exchanged : InstructionSignature → List BaseType → Effect
-exchanged s kinds = and_then (all_popped s.pops kinds) (λ rest. Leaves (pushed s.pushes rest))
+exchanged s kinds = and_then (all_popped s.pops kinds) (λ rest. Leaves (option_map_or (λ kind. kind ∷ rest) s.pushes rest))
 
 -- what an instruction makes of the kinds of the operands
 abbrev pub effect : ModuleContents → ProcedureContents → Instruction → List BaseType → Effect
@@ -54,19 +51,16 @@ effect m procedure instruction kinds =
 -- control may go from an offset with operands of some kinds to another offset with operands of others: to the next instruction,
 -- to a target, or without operands to a handler whose range holds the offset, whatever the instruction there finds
 pub data Edge (m : ModuleContents) (procedure : ProcedureContents) (at : ℕ) (kinds : List BaseType) : ℕ → List BaseType → Type 0 where
-  next : (i : Instruction) (to : ℕ) (after : List BaseType) → instruction_at procedure.code at ≡ Some i → effect m procedure i kinds ≡ Leaves after → goes_on i ≡ true → to ≡ at + width_of i → Edge m procedure at kinds to after
-  jumps : (i : Instruction) (to : ℕ) (after : List BaseType) → instruction_at procedure.code at ≡ Some i → effect m procedure i kinds ≡ Leaves after → target_of i ≡ Some to → Edge m procedure at kinds to after
+  next : (i : Instruction) (to : ℕ) (after : List BaseType) → instruction_at procedure.code at ≡ Some i → effect m procedure i kinds ≡ Leaves after → (entry_of i).goes_on ≡ true → to ≡ at + width_of i → Edge m procedure at kinds to after
+  jumps : (i : Instruction) (to : ℕ) (after : List BaseType) → instruction_at procedure.code at ≡ Some i → effect m procedure i kinds ≡ Leaves after → (entry_of i).target ≡ Some to → Edge m procedure at kinds to after
   caught : (i : Instruction) (handler : Handler) → instruction_at procedure.code at ≡ Some i → Contains procedure.handlers handler → handler.start ≤ at → at < handler.end → Edge m procedure at kinds handler.target []
 
 -- ---- the flow
 
-abbrev pub nowhere : ℕ → Option (List BaseType)
-nowhere offset = None
-
 -- the tables of lists by offset that the flow may give: control starts at 0 without operands, and along an edge from an offset
 -- that has a list an offset gets one that has none yet. So a list that conflicts with an earlier one goes no further
 pub data Flow (m : ModuleContents) (procedure : ProcedureContents) : (ℕ → Option (List BaseType)) → Type 0 where
-  starts : Flow m procedure (updated nowhere 0 (Some []))
+  starts : Flow m procedure (updated (λ offset. None) 0 (Some []))
   grows : (table : ℕ → Option (List BaseType)) (at : ℕ) (kinds : List BaseType) (to : ℕ) (after : List BaseType) → Flow m procedure table → table at ≡ Some kinds → Edge m procedure at kinds to after → table to ≡ None → Flow m procedure (updated table to (Some after))
 
 -- the refusal of two paths that meet with different lists

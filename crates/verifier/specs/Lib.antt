@@ -10,6 +10,7 @@ pub mod Numbers
 pub mod Operands
 pub mod Safety
 pub mod Signatures
+pub mod SignatureParts
 pub mod Search
 pub mod Starts
 pub mod Verified

@@ -2,6 +2,7 @@
 -- and pushes; one entry for each.
 -- Source: our own; the rules are those of a bytecode verifier, as that of the Java virtual machine.
 use Rattle.std.specs.Prelude.{ℕ, nat_lt, Bool, true, false, List, [], ◌∷◌, map, reverse, slice_get, Option, Some, None, is_none, is_some}
+use Rattle.std.specs.Option.{option_map_or, option_to_list}
 use Rattle.modules.specs.Contents.{ProcedureContents, ModuleContents}
 use Rattle.modules.specs.Machine.{header_of, machine_code}
 use Rattle.modules.specs.Operators.{rule_of}
@@ -56,8 +57,7 @@ is_output _ = false
 
 -- the kind of a slot or a global
 abbrev pub slot_kind : Option Slot → BaseType
-slot_kind None = Int
-slot_kind (Some slot) = kind_of_slot slot
+slot_kind slot = option_map_or kind_of_slot slot Int
 
 -- a slot of the procedure or a global, as it is declared
 abbrev pub declared_in : ModuleContents → ProcedureContents → Storage → ℕ → Option Slot
@@ -73,13 +73,7 @@ array slot signature = naming (is_array slot) (signature (slot_kind slot))
 
 -- a call pops the arguments, the last one first, and its return pushes the value, if there is one
 abbrev pub called : Option ProcedureContents → InstructionSignature
-called None = exchange [] None
-called (Some callee) = exchange (reverse (header_of callee).parameters) callee.returned
-
--- a return pops the value that is due
-abbrev pub value_kinds : Option BaseType → List BaseType
-value_kinds None = []
-value_kinds (Some kind) = kind ∷ []
+called callee = option_map_or (λ c. exchange (reverse (header_of c).parameters) c.returned) callee (exchange [] None)
 
 -- ---- the entries
 
@@ -97,7 +91,7 @@ signature m procedure (Jump target) = exchange [] None
 signature m procedure (JumpIfFalse target) = exchange (Boolean ∷ []) None
 signature m procedure (Call callee) = naming (is_some (slice_get m.procedures callee)) (called (slice_get m.procedures callee))
 signature m procedure Return = record (exchange [] None) { own = is_none procedure.returned }
-signature m procedure ReturnValue = record (exchange (value_kinds procedure.returned) None) { own = is_some procedure.returned }
+signature m procedure ReturnValue = record (exchange (option_to_list procedure.returned) None) { own = is_some procedure.returned }
 signature m procedure (Receive channel) = naming (is_input (slice_get (machine_code m).directions channel)) (exchange [] (Some Int))
 signature m procedure (Send channel) = naming (is_output (slice_get (machine_code m).directions channel)) (exchange (Int ∷ []) None)
 signature m procedure (Throw exception) = naming (nat_lt exception (machine_code m).exceptions) (exchange [] None)

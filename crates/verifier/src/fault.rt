@@ -1,7 +1,7 @@
-ghost use Rattle.std.specs.Prelude.{◌≡◌, Some};
-ghost use Rattle.verifier.specs.RefusalKinds.{code_refusal_number, code_refusal_words};
+ghost use Rattle.std.specs.Prelude.{Some};
+ghost use Rattle.verifier.specs.RefusalKinds.{code_message};
 
-use common::OrNoMemory;
+use common::{Message, OrNoMemory, Reported};
 use std::error::Error;
 use std::fmt;
 
@@ -20,30 +20,16 @@ pub enum CodeRefusalKind {
     FallsOffEnd,
 }
 
-impl CodeRefusalKind {
-    /// The number that the refusal is reported by, 811 to 815.
-    pub fn number(self) -> u32
-        ensures { result ≡ code_refusal_number self }
-    {
-        match self {
-            CodeRefusalKind::Jump => 811,
-            CodeRefusalKind::OperandKind => 812,
-            CodeRefusalKind::OperandDepth => 813,
-            CodeRefusalKind::SlotOrIndex => 814,
-            CodeRefusalKind::FallsOffEnd => 815,
-        }
-    }
+impl Reported for CodeRefusalKind {
+    ghost contents = { code_message };
 
-    /// The words that the refusal is reported by.
-    pub fn words(self) -> &'static str
-        ensures { result.now ≡ code_refusal_words self }
-    {
+    fn message(&self) -> Message {
         match self {
-            CodeRefusalKind::Jump => "jump",
-            CodeRefusalKind::OperandKind => "operand kind",
-            CodeRefusalKind::OperandDepth => "operand depth",
-            CodeRefusalKind::SlotOrIndex => "slot or index",
-            CodeRefusalKind::FallsOffEnd => "falls off the end",
+            CodeRefusalKind::Jump => Message::new(811, "jump"),
+            CodeRefusalKind::OperandKind => Message::new(812, "operand kind"),
+            CodeRefusalKind::OperandDepth => Message::new(813, "operand depth"),
+            CodeRefusalKind::SlotOrIndex => Message::new(814, "slot or index"),
+            CodeRefusalKind::FallsOffEnd => Message::new(815, "falls off the end"),
         }
     }
 }
@@ -57,7 +43,7 @@ pub struct CodeRefusal {
 }
 
 impl fmt::Display for CodeRefusal {
-    ghost output = { λ refusal. Some (code_refusal_words refusal.kind) };
+    ghost output = { λ refusal. Some (code_message refusal.kind).words };
 
     fn fmt<W: fmt::Write>(&self, f: &mut fmt::Formatter<W>) -> fmt::Result {
         write!(f, "{}", self.kind.words())

@@ -6,13 +6,13 @@ ghost use Rattle.common.specs.Answers.{Answers, IfRefused};
 ghost use Rattle.std.specs.Prelude.{◌≡◌, IfErr, IfOk, Some};
 ghost use Rattle.verifier.specs.Refusals.{IsNotRefused};
 ghost use Rattle.verifier.specs.Loaded.{CannotLoad, IsLoaded};
-ghost use Rattle.verifier.specs.RefusalKinds.{load_refusal_number, load_refusal_words};
+ghost use Rattle.verifier.specs.RefusalKinds.{load_message};
 ghost use Rattle.verifier.specs.declared.loading.LoadRefusal.TheVariants.{Bytes, Code};
 
 use crate::fault::CodeRefusal;
 use crate::verified::{Verified, verify};
 use bytecode::{FormatRefusal, decode};
-use common::OrNoMemory;
+use common::{Message, OrNoMemory, Reported};
 use std::alloc::Global;
 use std::error::Error;
 use std::fmt;
@@ -26,30 +26,19 @@ pub enum LoadRefusal {
     Code(CodeRefusal),
 }
 
-impl LoadRefusal {
-    /// The number that the refusal is reported by: that of its kind.
-    pub fn number(&self) -> u32
-        ensures { result ≡ load_refusal_number self.now }
-    {
-        match self {
-            LoadRefusal::Bytes(refusal) => refusal.kind.number(),
-            LoadRefusal::Code(refusal) => refusal.kind.number(),
-        }
-    }
+impl Reported for LoadRefusal {
+    ghost contents = { load_message };
 
-    /// The words that the refusal is reported by: those of its kind.
-    pub fn words(&self) -> &'static str
-        ensures { result.now ≡ load_refusal_words self.now }
-    {
+    fn message(&self) -> Message {
         match self {
-            LoadRefusal::Bytes(refusal) => refusal.kind.words(),
-            LoadRefusal::Code(refusal) => refusal.kind.words(),
+            LoadRefusal::Bytes(refusal) => refusal.kind.message(),
+            LoadRefusal::Code(refusal) => refusal.kind.message(),
         }
     }
 }
 
 impl fmt::Display for LoadRefusal {
-    ghost output = { λ refusal. Some (load_refusal_words refusal) };
+    ghost output = { λ refusal. Some (load_message refusal).words };
 
     fn fmt<W: fmt::Write>(&self, f: &mut fmt::Formatter<W>) -> fmt::Result {
         write!(f, "{}", self.words())

@@ -2,8 +2,9 @@
 
 ghost use Rattle.verifier.specs.Flow.{Leaves, Misses, all_popped, between, popped};
 ghost use Rattle.verifier.specs.Operands.{bit, full_blocks, greatest, list_of, packed, IsLonger};
-ghost use Rattle.std.specs.Prelude.{◌≡◌, ◌≢◌, ◌+◌, ◌*◌, ◌<◌, ◌≤◌, ◌^◌, ℕ, List, Some, ◌∷◌, [], IfOk, IfErr, IfNone, IfSome, OnOk, drop, length, map};
+ghost use Rattle.std.specs.Prelude.{◌≡◌, ◌≢◌, ◌+◌, ◌*◌, ◌<◌, ◌≤◌, ◌^◌, ℕ, List, Some, ◌∷◌, [], IfOk, IfErr, IfNone, IfSome, OnOk, drop, length, map, set};
 ghost use Rattle.common.specs.declared.base_type.BaseType.{BaseType};
+ghost use Rattle.common.specs.declared.base_type.BaseType.TheVariants.{Boolean, Int};
 
 use crate::fault::CodeRefusalKind;
 use common::BaseType;
@@ -66,6 +67,27 @@ fn greatest_of(links: &[Link]) -> u32
         deepest = link.depth.max(deepest);
     }
     deepest
+}
+
+// Notes the number of the list with one more operand of a kind on a list.
+fn note(
+    ints: &mut Vec<Option<u32>>,
+    booleans: &mut Vec<Option<u32>>,
+    kind: BaseType,
+    list: u32,
+    above: u32,
+)
+    requires ints { list < length ints.old.items }
+    requires booleans { list < length booleans.old.items }
+    ensures int { kind ≡ Int → (ints.new.items ≡ set ints.old.items list (Some above))
+        × (booleans.new.items ≡ booleans.old.items) }
+    ensures boolean { kind ≡ Boolean → (ints.new.items ≡ ints.old.items)
+        × (booleans.new.items ≡ set booleans.old.items list (Some above)) }
+{
+    match kind {
+        BaseType::Int => ints[list as usize] = Some(above),
+        BaseType::Boolean => booleans[list as usize] = Some(above),
+    }
 }
 
 /// Lists of kinds, each of which is kept once and goes by a number. The list 0 is empty.
@@ -184,10 +206,7 @@ impl Operands {
             self.booleans.pop();
             return Err(fault.into());
         }
-        match kind {
-            BaseType::Int => self.ints[list as usize] = Some(above),
-            BaseType::Boolean => self.booleans[list as usize] = Some(above),
-        }
+        note(&mut self.ints, &mut self.booleans, kind, list, above);
         Ok(above)
     }
 

@@ -3,7 +3,7 @@
 ghost use Rattle.modules.specs.Contents.{ProcedureContents};
 ghost use Rattle.modules.specs.ByteFormat.{Fits};
 ghost use Rattle.modules.specs.Format.{module_file};
-ghost use Rattle.modules.specs.Machine.{kinds_of};
+ghost use Rattle.modules.specs.MachineParts.{kinds_of};
 ghost use Rattle.std.specs.Prelude.{Some, ◌<◌, ◌≤◌, ◌≡◌, IfOk, length, map, reverse, slice_get, string_bytes, take};
 ghost use Rattle.verifier.specs.Operands.{packed};
 ghost use Rattle.verifier.specs.Parameters.{parameter_blocks};

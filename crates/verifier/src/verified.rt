@@ -1,4 +1,4 @@
-ghost use Rattle.modules.specs.Machine.{code_of};
+ghost use Rattle.modules.specs.MachineParts.{code_of};
 ghost use Rattle.std.specs.Prelude.{IfErr, IfOk, OnOk, Some, length, slice_get, ◌<◌, ◌≡◌};
 ghost use Rattle.modules.specs.Contents.{ProcedureContents};
 ghost use Rattle.common.specs.Answers.{IfRefused};

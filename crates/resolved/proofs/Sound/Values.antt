@@ -1,6 +1,6 @@
 -- The value of an expression has its base type.
 use Rattle.std.proofs.Common.{◌≡◌, refl, sym, ◌∙◌, subst, ℕ, ◌<◌, List, [], ◌∷◌, length, Bool, true, false, ◌&&◌, arith}
-use Rattle.std.specs.Prelude.{Option, Some, None, is_none, ℤ, pos, negsuc, nat_lt, if◌then◌else◌}
+use Rattle.std.specs.Prelude.{Option, Some, None, is_none, ℤ, pos, negsuc, nat_abs, nat_lt, if◌then◌else◌}
 use Rattle.std.proofs.lemmas.Bool.{eqb-true, and_parts}
 use Rattle.std.proofs.lemmas.List.Elements.{All-get_or}
 use Rattle.std.proofs.lemmas.Bool.Decides.{nat_tests}
@@ -21,7 +21,7 @@ use Rattle.resolved.specs.declared.expression.Sameness.TheVariants.{Same, Differ
 use Rattle.resolved.specs.declared.expression.Connective.{Connective}
 use Rattle.resolved.specs.Tree.{Expression, Integer, Logical, Read, Element, Unary, Binary, Short}
 use Rattle.resolved.specs.Program.{Program, ProcedureEntry, SlotEntry}
-use Rattle.resolved.specs.Value.{Evaluated, Yields, Raises, then_with, base_of, operator_value, prefix_value, checked_index, number_in, in_range, position_of, decides}
+use Rattle.resolved.specs.Value.{Evaluated, Yields, Raises, then_with, base_of, operator_value, prefix_value, checked_index, number_in, in_range, decides}
 use Rattle.resolved.specs.SourceState.{SourceState, cells, cell_at, value_of, values_of}
 use Rattle.resolved.specs.WellFormed.{VariableType, variable_type, scalar_by, array_by, has_length, cell_count, same_base, prefix_base, result_base, has_base, arguments_match}
 use Rattle.resolved.specs.Kinds.{CellsFit, StateFits, GivesBase, ArgumentsFit}
@@ -96,7 +96,7 @@ checked_below v length i h = go (number_in v) h
         grind (arith, nat_tests)
     at n false e h = cc
 
-    go : (z : ℤ) → ◌≡◌ {A = Evaluated ℕ} (if in_range z length then Yields (position_of z) else Raises BOUNDS) (Yields i) → i < length
+    go : (z : ℤ) → ◌≡◌ {A = Evaluated ℕ} (if in_range z length then Yields (nat_abs z) else Raises BOUNDS) (Yields i) → i < length
     go (pos n) h = at n (nat_lt n length) refl h
     go (negsuc n) h = cc
 

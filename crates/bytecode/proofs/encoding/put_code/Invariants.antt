@@ -1,6 +1,7 @@
 use Rattle.std.proofs.Common.{length, take, ◌++◌, ◌≡◌}
 use Rattle.std.specs.List.{flat_map}
-use Rattle.bytecode.specs.Writing.{code_bytes, instruction_bytes, number_bytes}
+use Rattle.bytecode.specs.Writing.{number_bytes}
+use Rattle.modules.specs.Opcodes.{code_bytes, instruction_bytes}
 use Rattle.bytecode.proofs.encoding.put_code.Given as goal
 
 -- the length and the instructions up to here are written

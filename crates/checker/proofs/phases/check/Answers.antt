@@ -45,15 +45,15 @@ returns-in-Ok-find_labels-clause-larger c =
     c.labelled_programs_stay_isolated.ensures.by_name (program_of kept) accepted.ended c.in-Ok-find_labels.ensures.checked.labelled
     (subst IsHierarchy (sym same) c.count-count.ensures.kept)
 
-pub returns-clause-first_fault : goal.returns-clause-first_fault
-returns-clause-first_fault c =
+pub returns-in-Err-Refused-find_labels-clause-first_fault : goal.returns-in-Err-Refused-find_labels-clause-first_fault
+returns-in-Err-Refused-find_labels-clause-first_fault c =
     rw c.refusal_at-refusal-in-Err-Refused-find_labels.ensures
     (flow-fault c.args.hierarchy.now c.args.source.now _ c.in-Ok.analysed.core c.in-Err-Refused-find_labels.flow
     c.as_bytes-bytes-in-Err-Refused-find_labels.ensures.value c.in-Ok.ensures.resolved c.in-Ok.ensures.ended
     (subst (IfRefused (RefusesProgram c.in-Ok.analysed.core)) c.in-Err-Refused-find_labels.field-0-is c.in-Err-Refused-find_labels.ensures.rejected))
 
-pub returns-clause-rejected : goal.returns-clause-rejected
-returns-clause-rejected c =
+pub returns-in-Err-Refused-find_labels-clause-rejected : goal.returns-in-Err-Refused-find_labels-clause-rejected
+returns-in-Err-Refused-find_labels-clause-rejected c =
     refused-not-accepted c.args.hierarchy.now c.args.source.now _
     (flow-fault c.args.hierarchy.now c.args.source.now _ c.in-Ok.analysed.core c.in-Err-Refused-find_labels.flow
     c.as_bytes-bytes-in-Err-Refused-find_labels.ensures.value c.in-Ok.ensures.resolved c.in-Ok.ensures.ended

@@ -4,9 +4,10 @@ use Rattle.std.proofs.lemmas.Result.{on_ok_weaker}
 use Rattle.resolved.specs.Tree as T
 use Rattle.resolved.specs.WellFormed.{statement_nodes}
 use Rattle.resolved.specs.TreeOf.{expression_of, some_expression_of, statement_of, block_of, handlers_of}
+use Rattle.resolved.specs.declared.statement.Exit.TheVariants.{Normal}
 use Rattle.solver.specs.declared.constraints.Atom.TheVariants as stored
 use Rattle.constraints.proofs.Along.{Along, Handling, along-start, along-step, along-end, handling-start, handling-step, handling-end}
-use Rattle.constraints.proofs.Formed.{form-at, form-by, block-walked, statement-walked, if-walked, while-walked, try-walked}
+use Rattle.constraints.proofs.Formed.{form-at, form-by, form-simple, IsValued, block-walked, statement-walked, if-walked, while-walked, try-walked}
 use Rattle.constraints.proofs.Ready.{along-first, along-room, along-second, block-goes, form-ready-at, form-room, handling-first, handling-second, if-first, if-second, nested-goes, statement-goes, there-is-next, try-first, try-inside, try-room, try-second, while-goes}
 use Rattle.constraints.specs.Ready.{entries_of, AreHandlersReady, AreStatementsReady}
 use Rattle.constraints.specs.declared.forms.ArrayStore.{ArrayStore}
@@ -38,45 +39,47 @@ walk_statement-returns-clause-added t c =
 -- statements without blocks
 pub walk_form-returns-in-Assign : goal.walk_form-returns-in-Assign
 walk_form-returns-in-Assign t c =
-    form-by c.args.walk.now c.args.context c.args.statement.now (T.Assign c.in-Assign.at c.in-Assign.variable (expression_of c.in-Assign.value)) c.args.progress.now _
-    c.walk_assign.result (ap statement_of c.in-Assign.is) c.walk_assign.ensures
+    form-simple c.args.walk.now c.args.context c.around-around.result c.deref.result.now c.args.statement.now (T.Assign c.in-Assign.at c.in-Assign.variable (expression_of c.in-Assign.value)) c.args.progress.now _ c.add_valued.result
+    (ap statement_of c.in-Assign.is) refl refl c.deref.ensures.value refl c.around-around.ensures.pc c.around-around.ensures.exit_unknowns
+    (on_ok_weaker c.add_valued.result (λ valued n. subst (IsValued c.args.walk.now c.around-around.result (expression_of c.in-Assign.value) Normal c.args.progress.now.constraints.items c.add_valued.new.constraints.items) c.of_assignment-demand.ensures valued) c.add_valued.ensures)
 
 pub walk_form-returns-in-Clear : goal.walk_form-returns-in-Clear
 walk_form-returns-in-Clear t c =
-    form-by c.args.walk.now c.args.context c.args.statement.now (T.Clear c.in-Clear.at c.in-Clear.slot) c.args.progress.now _
-    c.walk_clear.result (ap statement_of c.in-Clear.is) c.walk_clear.ensures
+    form-simple c.args.walk.now c.args.context c.around-around.result c.deref.result.now c.args.statement.now (T.Clear c.in-Clear.at c.in-Clear.slot) c.args.progress.now _ c.add_clear.result
+    (ap statement_of c.in-Clear.is) refl refl c.deref.ensures.value refl c.around-around.ensures.pc c.around-around.ensures.exit_unknowns c.add_clear.ensures
 
 pub walk_form-returns-in-Store : goal.walk_form-returns-in-Store
 walk_form-returns-in-Store t c =
-    form-by c.args.walk.now c.args.context c.args.statement.now (T.Store c.new-store.result.at c.new-store.result.array c.new-store.result.length (expression_of c.in-Store.index) (expression_of c.in-Store.value)) c.args.progress.now _
-    c.walk_store.result (ap statement_of c.in-Store.is ∙ ap (λ (x : ArrayStore). T.Store x.at x.array x.length (expression_of c.in-Store.index) (expression_of c.in-Store.value)) (sym c.new-store.ensures)) c.walk_store.ensures
+    form-simple c.args.walk.now c.args.context c.around-around.result c.deref.result.now c.args.statement.now (T.Store c.new-store.result.at c.new-store.result.array c.new-store.result.length (expression_of c.in-Store.index) (expression_of c.in-Store.value)) c.args.progress.now _ c.add_store.result
+    (ap statement_of c.in-Store.is ∙ ap (λ (x : ArrayStore). T.Store x.at x.array x.length (expression_of c.in-Store.index) (expression_of c.in-Store.value)) (sym c.new-store.ensures)) refl refl c.deref.ensures.value refl c.around-around.ensures.pc c.around-around.ensures.exit_unknowns c.add_store.ensures
 
 pub walk_form-returns-in-Receive : goal.walk_form-returns-in-Receive
 walk_form-returns-in-Receive t c =
-    form-by c.args.walk.now c.args.context c.args.statement.now (T.Receive c.in-Receive.at c.in-Receive.channel c.in-Receive.target) c.args.progress.now _
-    c.walk_receive.result (ap statement_of c.in-Receive.is) c.walk_receive.ensures
+    form-simple c.args.walk.now c.args.context c.around-around.result c.deref.result.now c.args.statement.now (T.Receive c.in-Receive.at c.in-Receive.channel c.in-Receive.target) c.args.progress.now _ c.add_receive.result
+    (ap statement_of c.in-Receive.is) refl refl c.deref.ensures.value refl c.around-around.ensures.pc c.around-around.ensures.exit_unknowns c.add_receive.ensures
 
 pub walk_form-returns-in-Send : goal.walk_form-returns-in-Send
 walk_form-returns-in-Send t c =
-    form-by c.args.walk.now c.args.context c.args.statement.now (T.Send c.in-Send.at c.in-Send.channel (expression_of c.in-Send.value)) c.args.progress.now _
-    c.walk_send.result (ap statement_of c.in-Send.is) c.walk_send.ensures
+    form-simple c.args.walk.now c.args.context c.around-around.result c.deref.result.now c.args.statement.now (T.Send c.in-Send.at c.in-Send.channel (expression_of c.in-Send.value)) c.args.progress.now _ c.add_valued-in-Send.result
+    (ap statement_of c.in-Send.is) refl refl c.deref.ensures.value refl c.around-around.ensures.pc c.around-around.ensures.exit_unknowns
+    (on_ok_weaker c.add_valued-in-Send.result (λ valued n. subst (IsValued c.args.walk.now c.around-around.result (expression_of c.in-Send.value) Normal c.args.progress.now.constraints.items c.add_valued-in-Send.new.constraints.items) c.of_send-demand.ensures valued) c.add_valued-in-Send.ensures)
 
 pub walk_form-returns-in-Leave : goal.walk_form-returns-in-Leave
 walk_form-returns-in-Leave t c =
-    form-by c.args.walk.now c.args.context c.args.statement.now (T.Leave c.in-Leave.at c.in-Leave.exit) c.args.progress.now _
-    c.walk_leave.result (ap statement_of c.in-Leave.is) c.walk_leave.ensures
+    form-simple c.args.walk.now c.args.context c.around-around.result c.deref.result.now c.args.statement.now (T.Leave c.in-Leave.at c.in-Leave.exit) c.args.progress.now _ c.add_leave.result
+    (ap statement_of c.in-Leave.is) refl refl c.deref.ensures.value refl c.around-around.ensures.pc c.around-around.ensures.exit_unknowns c.add_leave.ensures
 
 pub walk_form-returns-in-Return : goal.walk_form-returns-in-Return
 walk_form-returns-in-Return t c =
-    form-by c.args.walk.now c.args.context c.args.statement.now (T.ReturnWith c.in-Return.at (some_expression_of c.in-Return.value)) c.args.progress.now _
-    c.walk_return.result (ap statement_of c.in-Return.is) c.walk_return.ensures
+    form-simple c.args.walk.now c.args.context c.around-around.result c.deref.result.now c.args.statement.now (T.ReturnWith c.in-Return.at (some_expression_of c.in-Return.value)) c.args.progress.now _ c.add_return.result
+    (ap statement_of c.in-Return.is) refl refl c.deref.ensures.value refl c.around-around.ensures.pc c.around-around.ensures.exit_unknowns c.add_return.ensures
 
 -- a call
 pub walk_form-returns-in-Call : goal.walk_form-returns-in-Call
 walk_form-returns-in-Call t c =
-    form-by c.args.walk.now c.args.context c.args.statement.now (T.Call c.new-site.result.at c.new-site.result.callee (map expression_of c.deref.result.now) c.new-site.result.target) c.args.progress.now _
-    c.walk_call.result (ap statement_of c.in-Call.is ∙ ap (λ xs. T.Call c.in-Call.at c.in-Call.callee (map expression_of xs) c.in-Call.target) (sym c.deref.ensures.value)
-    ∙ ap (λ (x : CallSite). T.Call x.at x.callee (map expression_of c.deref.result.now) x.target) (sym c.new-site.ensures)) c.walk_call.ensures
+    form-by c.args.walk.now c.args.context c.args.statement.now (T.Call c.new-site.result.at c.new-site.result.callee (map expression_of c.deref-in-Call.result.now) c.new-site.result.target) c.args.progress.now _
+    c.walk_call.result (ap statement_of c.in-Call.is ∙ ap (λ xs. T.Call c.in-Call.at c.in-Call.callee (map expression_of xs) c.in-Call.target) (sym c.deref-in-Call.ensures.value)
+    ∙ ap (λ (x : CallSite). T.Call x.at x.callee (map expression_of c.deref-in-Call.result.now) x.target) (sym c.new-site.ensures)) c.walk_call.ensures
 
 -- forms with blocks
 pub walk_form-returns-in-If : goal.walk_form-returns-in-If
@@ -123,12 +126,12 @@ walk_while-returns t c =
 
 pub walk_try-returns : goal.walk_try-returns
 walk_try-returns t c = λ at.
-    let after : Progress = record c.walk_block.new.progress { thrown = c.put_back.new.thrown; journal = c.note_handled.new.self } in
+    let after : Progress = record c.walk_block.new.progress { thrown = c.put_back.new.thrown; journal = c.note_exceptions.new.self } in
     try-walked c.args.walk.now.table.now.core.now c.args.walk.now.table.now.core.now.labels (entries_of c.args.walk.now.map.now) c.args.walk.now.procedure
     at (block_of c.args.block.now) c.args.handlers.now c.args.context.pc c.args.context.exit_unknowns c.in_ok-tried.tried c.deref.result.now
     c.args.progress.now c.begin_try.new.progress c.walk_block.new.progress after c.walk_handlers.new.progress
     c.in_ok-tried.ensures c.in_ok-walk_block.ensures refl refl refl c.put_back.ensures
-    c.in_ok-note_handled.ensures.calls c.in_ok-note_handled.ensures.moments c.in_ok-note_handled.ensures.count c.deref.ensures.value
+    c.in_ok-note_exceptions.ensures.calls c.in_ok-note_exceptions.ensures.moments c.in_ok-note_exceptions.ensures.count c.deref.ensures.value
     (λ number other are. c.in_ok-walk_handlers.ensures number other (c.deref-2.ensures.value ∙ are))
 
 -- along the statements of a block
@@ -318,7 +321,7 @@ walk_try-walk_block-requires t c = (
 
 pub walk_try-walk_handlers-requires : goal.walk_try-walk_handlers-requires
 walk_try-walk_handlers-requires t c =
-    let after : Progress = record c.walk_block.new.progress { thrown = c.put_back.new.thrown; journal = c.note_handled.new.self } in
+    let after : Progress = record c.walk_block.new.progress { thrown = c.put_back.new.thrown; journal = c.note_exceptions.new.self } in
     let numbered = ap length c.deref-2.ensures.value ∙ c.in_ok-tried.ensures.count_is in (
       omega arith,
       (
@@ -343,9 +346,9 @@ walk_handlers-walk_block-requires t c =
 pub walk_form-walk_call-requires : goal.walk_form-walk_call-requires
 walk_form-walk_call-requires t c =
     form-room c.args.walk.now.table.now.core.now c.args.walk.now.table.now.core.now.labels (entries_of c.args.walk.now.map.now) c.args.walk.now.procedure c.args.context.exit_unknowns
-    (T.Call c.in-Call.at c.in-Call.callee (map expression_of c.deref.result.now) c.in-Call.target) 1 c.args.progress.now
+    (T.Call c.in-Call.at c.in-Call.callee (map expression_of c.deref-in-Call.result.now) c.in-Call.target) 1 c.args.progress.now
     (form-ready-at c.args.walk.now.table.now.core.now (entries_of c.args.walk.now.map.now) c.args.walk.now.procedure c.args.statement.now _ c.args.context.exit_unknowns c.args.progress.now
-    (ap statement_of c.in-Call.is ∙ ap (λ xs. T.Call c.in-Call.at c.in-Call.callee (map expression_of xs) c.in-Call.target) (sym c.deref.ensures.value)) c.requires)
+    (ap statement_of c.in-Call.is ∙ ap (λ xs. T.Call c.in-Call.at c.in-Call.callee (map expression_of xs) c.in-Call.target) (sym c.deref-in-Call.ensures.value)) c.requires)
     (omega arith)
 
 pub walk_if-begin_branch-requires : goal.walk_if-begin_branch-requires

@@ -3,7 +3,7 @@ use Rattle.resolved.specs.CoreOf.{program_of}
 use Rattle.resolved.specs.declared.program.Core.{Core}
 use Rattle.resolved.specs.declared.tables.Procedure.{Procedure}
 use Rattle.explaining.specs.Locals.{unlabelled_locals}
-use Rattle.explaining.proofs.Lists.{part_of_none, writes_none, writes_procedure, writes_procedures, writes_some_procedures}
+use Rattle.explaining.proofs.Lists.{part_of_none, writes_none, writes_procedure, writes_some_procedures}
 use Rattle.gathering.proofs.Before.{before-here, before-next}
 use Rattle.gathering.proofs.Few.{core-few}
 use Rattle.explaining.proofs.labels_of_locals.write_labels.Goals as goal

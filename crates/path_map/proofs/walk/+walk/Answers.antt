@@ -2,22 +2,22 @@ use Rattle.std.specs.Prelude.{flat_map}
 use Rattle.common.specs.Answers.{IfRefused}
 use Rattle.std.proofs.Common.{◌≡◌, refl, sym, ap, ◌∙◌, subst, ◌+◌, arith, List, [], true, map, drop, rules, ◌++◌}
 use Rattle.std.proofs.lemmas.Bool.{not-false}
+use Rattle.std.proofs.lemmas.List.{drop_all}
 use Rattle.std.proofs.lemmas.Result.{IfOk-weaker, IfErr-weaker, on_ok_weaker}
+use Rattle.resolved.specs.FaultParts.{inner_faults}
 use Rattle.resolved.specs.CoreOf.{program_of}
 use Rattle.resolved.specs.Exits.{block_exits, raises, index_raises, statement_exits}
-use Rattle.resolved.specs.ExitFaults.{block_faults, handlers_faults, inner_faults}
+use Rattle.resolved.specs.ExitFaults.{block_faults, handlers_faults}
 use Rattle.resolved.specs.Tree as T
 use Rattle.resolved.specs.TreeOf.{expression_of, some_expression_of, statement_of, block_of, handlers_of}
 use Rattle.resolved.specs.declared.statement.Exit.{Exit}
-use Rattle.resolved.specs.declared.fault.ExitRefusalKind.TheVariants as kind
-use Rattle.common.specs.declared.fault.OrNoMemory.TheVariants.{Refused}
 use Rattle.path_map.specs.FirstFault.{IsFirstEndFault}
-use Rattle.path_map.specs.Paths.{block_paths, rest_paths, inner_paths}
+use Rattle.path_map.specs.Paths.{block_paths, rest_paths, inner_paths, statement_paths}
 use Rattle.path_map.specs.Exceptions.{raised_list}
 use Rattle.path_map.specs.Joins.{raises_some}
 use Rattle.path_map.specs.Sets.{members}
 use Rattle.path_map.specs.Walks.{IsFound, AreThrown}
-use Rattle.path_map.proofs.Walking.{along-begin, handling-begin, has-room, reserved, outside, inside, along-step, never-raised, in-handler, handling-step, first-left, first-right, none-both, Along, Handling}
+use Rattle.path_map.proofs.Walking.{along-begin, handling-begin, has-room, reserved, inside, along-step, along-end, never-raised, in-handler, handling-step, first-left, first-right, none-both, Along, Handling}
 use Rattle.path_map.proofs.Forms.{found-at, faults-at, first-at, return-found, store-same, if-found, while-found, try-is-found, tried-throws}
 use Rattle.resolved.specs.WellFormed.{statement_nodes}
 use Rattle.resolved.proofs.Measured.{handler-within, statement-within}
@@ -25,36 +25,82 @@ use Rattle.path_map.proofs.Fitting.{body-fits, handler-fits, handlers-fit, neste
 use Rattle.path_map.proofs.walk.+walk.Goals as goal
 use Rattle.resolved.proofs.Views.{next-statement, next-handler, tree-if, tree-while, tree-try, tree-nested}
 
--- an entry for which room was made
-pub walk_block-returns-clause-found : goal.walk_block-returns-clause-found
-walk_block-returns-clause-found t c =
-    let program = program_of c.args.walk.now.core.now in
-    let block = block_of c.args.block.now in
-    reserved (block_exits program block) (rest_paths program block) c.args.table.now c.reserve.new.self c.walk_statements.new.table c.in_ok-at.at
-    (members c.new-own.result) (members c.walk_statements.new.raised) c.in_ok-exits.exits c.in_ok-at.ensures.room c.in_ok-at.ensures.number c.in_ok-exits.ensures.found
-    c.put.new.self (members c.args.raised.now) (members c.unite.new.self) c.new-own.ensures.empty c.in_ok-unite.ensures.united c.in_ok-put.ensures
-
-pub walk_statement-returns-clause-found : goal.walk_statement-returns-clause-found
-walk_statement-returns-clause-found t c =
-    let program = program_of c.args.walk.now.core.now in
-    let statement = statement_of c.args.statement.now in
-    reserved (statement_exits program statement) (inner_paths program statement) c.args.table.now c.reserve.new.self c.walk_form.new.table c.in_ok-at.at
-    (members c.new-own.result) (members c.walk_form.new.raised) c.in_ok-exits.exits c.in_ok-at.ensures.room c.in_ok-at.ensures.number c.in_ok-exits.ensures.found
-    c.put.new.self (members c.args.raised.now) (members c.unite.new.self) c.new-own.ensures.empty c.in_ok-unite.ensures.united c.in_ok-put.ensures
+-- a block: room is made for its entry, and for that of each of its statements
+pub walk_block-loop-statement-init : goal.walk_block-loop-statement-init
+walk_block-loop-statement-init t c =
+    record {
+      along = along-begin (program_of c.args.walk.now.core.now) c.args.in_loop (block_of c.args.block.now) c.reserve.new.self (members c.new-own.result)
+          c.go_on_or_raise-exits.result c.go_on_or_raise-exits.ensures;
+      bound = c.new-own.ensures.bound;
+    }
 
 pub walk_block-put-requires : goal.walk_block-put-requires
 walk_block-put-requires t c =
     let program = program_of c.args.walk.now.core.now in
-    let block = block_of c.args.block.now in
-    has-room (block_exits program block) (rest_paths program block) c.args.table.now c.reserve.new.self c.walk_statements.new.table c.in_ok-at.at
-    (members c.new-own.result) (members c.walk_statements.new.raised) c.in_ok-exits.exits c.in_ok-at.ensures.room c.in_ok-at.ensures.number c.in_ok-exits.ensures.found
+    let statement = statement_of c.statement-item.result in
+    has-room (statement_exits program statement) (inner_paths program statement) c.loop-statement.table c.reserve-in-loop-statement.new.self c.walk_form.new.table c.in_ok-place.place
+    (members c.new-inner.result) (members c.walk_form.new.raised) c.in_ok-found.found c.in_ok-place.ensures.room c.in_ok-place.ensures.number c.in_ok-found.ensures.found
 
-pub walk_statement-put-requires : goal.walk_statement-put-requires
-walk_statement-put-requires t c =
+pub walk_block-returns-in_err-found-clause-first_fault : goal.walk_block-returns-in_err-found-clause-first_fault
+walk_block-returns-in_err-found-clause-first_fault t c =
     let program = program_of c.args.walk.now.core.now in
-    let statement = statement_of c.args.statement.now in
-    has-room (statement_exits program statement) (inner_paths program statement) c.args.table.now c.reserve.new.self c.walk_form.new.table c.in_ok-at.at
-    (members c.new-own.result) (members c.walk_form.new.raised) c.in_ok-exits.exits c.in_ok-at.ensures.room c.in_ok-at.ensures.number c.in_ok-exits.ensures.found
+    let block = block_of c.args.block.now in
+    let statement = statement_of c.statement-item.result in
+    let tail = block_of (drop (c.loop-statement.statement-index + 1) c.args.block.now) in
+    let along : Along program c.args.in_loop block (T.Then statement tail) c.reserve.new.self c.loop-statement.table (members c.new-own.result) (members c.loop-statement.own) c.loop-statement.exits =
+    subst (λ rest. Along program c.args.in_loop block rest c.reserve.new.self c.loop-statement.table (members c.new-own.result) (members c.loop-statement.own) c.loop-statement.exits)
+    (next-statement c.args.block.now c.loop-statement.statement-index c.statement-item.result c.loop-statement-test.true c.statement-item.is) c.loop-statement.invariant.along in
+    let first : IfRefused (IsFirstEndFault (block_faults program c.args.in_loop true block)) c.in_err-found.field-0.0 =
+    inside program c.args.in_loop block c.reserve.new.self (members c.new-own.result) statement tail c.loop-statement.table (members c.loop-statement.own) c.loop-statement.exits along
+    (sym c.may_stand.ensures ∙ c.if-not-may_stand.false) (not-false c.loop-statement.exits.normal c.if-not-exits.false) c.in_err-found.field-0.0 c.in_err-found.ensures.first_fault in
+    search (rules, first)
+
+pub walk_block-loop-statement-preserved : goal.walk_block-loop-statement-preserved
+walk_block-loop-statement-preserved t c =
+    let program = program_of c.args.walk.now.core.now in
+    let block = block_of c.args.block.now in
+    let statement = statement_of c.statement-item.result in
+    let tail = block_of (drop (c.loop-statement.statement-index + 1) c.args.block.now) in
+    let along : Along program c.args.in_loop block (T.Then statement tail) c.reserve.new.self c.loop-statement.table (members c.new-own.result) (members c.loop-statement.own) c.loop-statement.exits =
+    subst (λ rest. Along program c.args.in_loop block rest c.reserve.new.self c.loop-statement.table (members c.new-own.result) (members c.loop-statement.own) c.loop-statement.exits)
+    (next-statement c.args.block.now c.loop-statement.statement-index c.statement-item.result c.loop-statement-test.true c.statement-item.is) c.loop-statement.invariant.along in
+    let found : IsFound (statement_exits program statement) (statement_paths program statement) c.loop-statement.table c.put.new.self (members c.loop-statement.own) (members c.unite.new.self) c.in_ok-found.found =
+    reserved (statement_exits program statement) (inner_paths program statement) c.loop-statement.table c.reserve-in-loop-statement.new.self c.walk_form.new.table c.in_ok-place.place
+    (members c.new-inner.result) (members c.walk_form.new.raised) c.in_ok-found.found c.in_ok-place.ensures.room c.in_ok-place.ensures.number c.in_ok-found.ensures.found
+    c.put.new.self (members c.loop-statement.own) (members c.unite.new.self) c.new-inner.ensures.empty c.in_ok-unite.ensures.united c.in_ok-put.ensures in
+    record {
+      along =
+          subst (λ exits. Along program c.args.in_loop block tail c.reserve.new.self c.put.new.self (members c.new-own.result) (members c.unite.new.self) exits)
+          (sym c.then-exits.ensures)
+          (along-step program c.args.in_loop block c.reserve.new.self (members c.new-own.result) statement tail c.loop-statement.table (members c.loop-statement.own) c.loop-statement.exits along
+          (sym c.may_stand.ensures ∙ c.if-not-may_stand.false) (not-false c.loop-statement.exits.normal c.if-not-exits.false) c.put.new.self (members c.unite.new.self) c.in_ok-found.found found c.in_ok-found.ensures.accepted);
+      bound = c.unite.ensures.bound ∙ c.loop-statement.invariant.bound;
+    }
+
+pub walk_block-put-requires-2 : goal.walk_block-put-requires-2
+walk_block-put-requires-2 t c =
+    let program = program_of c.args.walk.now.core.now in
+    let block = block_of c.args.block.now in
+    let along : Along program c.args.in_loop block T.Empty c.reserve.new.self c.loop-statement.table (members c.new-own.result) (members c.loop-statement.own) c.loop-statement.exits =
+    subst (λ rest. Along program c.args.in_loop block (block_of rest) c.reserve.new.self c.loop-statement.table (members c.new-own.result) (members c.loop-statement.own) c.loop-statement.exits)
+    (drop_all c.loop-statement.statement-index c.args.block.now c.loop-statement-test.false) c.loop-statement.invariant.along in
+    let found : IsFound (block_exits program block) (rest_paths program block) c.reserve.new.self c.loop-statement.table (members c.new-own.result) (members c.loop-statement.own) c.loop-statement.exits =
+    along-end program c.args.in_loop block c.reserve.new.self (members c.new-own.result) c.loop-statement.table (members c.loop-statement.own) c.loop-statement.exits along in
+    has-room (block_exits program block) (rest_paths program block) c.args.table.now c.reserve.new.self c.loop-statement.table c.in_ok-at.at
+    (members c.new-own.result) (members c.loop-statement.own) c.loop-statement.exits c.in_ok-at.ensures.room c.in_ok-at.ensures.number found
+
+pub walk_block-returns-clause-found : goal.walk_block-returns-clause-found
+walk_block-returns-clause-found t c =
+    let program = program_of c.args.walk.now.core.now in
+    let block = block_of c.args.block.now in
+    let along : Along program c.args.in_loop block T.Empty c.reserve.new.self c.loop-statement.table (members c.new-own.result) (members c.loop-statement.own) c.loop-statement.exits =
+    subst (λ rest. Along program c.args.in_loop block (block_of rest) c.reserve.new.self c.loop-statement.table (members c.new-own.result) (members c.loop-statement.own) c.loop-statement.exits)
+    (drop_all c.loop-statement.statement-index c.args.block.now c.loop-statement-test.false) c.loop-statement.invariant.along in
+    let found : IsFound (block_exits program block) (rest_paths program block) c.reserve.new.self c.loop-statement.table (members c.new-own.result) (members c.loop-statement.own) c.loop-statement.exits =
+    along-end program c.args.in_loop block c.reserve.new.self (members c.new-own.result) c.loop-statement.table (members c.loop-statement.own) c.loop-statement.exits along in
+    reserved (block_exits program block) (rest_paths program block) c.args.table.now c.reserve.new.self c.loop-statement.table c.in_ok-at.at
+    (members c.new-own.result) (members c.loop-statement.own) c.loop-statement.exits c.in_ok-at.ensures.room c.in_ok-at.ensures.number found
+    c.put-2.new.self (members c.args.raised.now) (members c.unite-2.new.self) c.new-own.ensures.empty c.in_ok-unite-2.ensures.united c.in_ok-put-2.ensures
 
 -- statements without blocks
 pub walk_form-returns-in_ok-go_on-in-Assign-clause-found : goal.walk_form-returns-in_ok-go_on-in-Assign-clause-found
@@ -291,61 +337,6 @@ walk_form-returns-in-Nested-clause-first_fault t c =
     c.args.in_loop fault first)
     c.walk_block-in-Nested.ensures.first_fault
 
--- along the statements of a block
-pub walk_statements-loop-statement-init : goal.walk_statements-loop-statement-init
-walk_statements-loop-statement-init t c =
-    record {
-      along = along-begin (program_of c.args.walk.now.core.now) c.args.in_loop (block_of c.args.block.now) c.args.table.now (members c.args.raised.now)
-          c.go_on_or_raise-exits.result c.go_on_or_raise-exits.ensures;
-      bound = refl;
-    }
-
-pub walk_statements-returns-then-not-may_stand-clause-first_fault : goal.walk_statements-returns-then-not-may_stand-clause-first_fault
-walk_statements-returns-then-not-may_stand-clause-first_fault t c =
-    let program = program_of c.args.walk.now.core.now in
-    let block = block_of c.args.block.now in
-    let statement = statement_of c.statement-item.result in
-    let tail = block_of (drop (c.loop-statement.statement-index + 1) c.args.block.now) in
-    let along : Along program c.args.in_loop block (T.Then statement tail) c.args.table.now c.loop-statement.table (members c.args.raised.now) (members c.loop-statement.raised) c.loop-statement.exits =
-    subst (λ rest. Along program c.args.in_loop block rest c.args.table.now c.loop-statement.table (members c.args.raised.now) (members c.loop-statement.raised) c.loop-statement.exits)
-    (next-statement c.args.block.now c.loop-statement.statement-index c.statement-item.result c.loop-statement-test.true c.statement-item.is) c.loop-statement.invariant.along in
-    subst (λ fault. IfRefused (IsFirstEndFault (block_faults program c.args.in_loop true block)) fault)
-    (sym (c.refuse.ensures ∙ ap (λ at. Refused (record { kind = kind.OutsideLoop; at = at })) c.at.ensures))
-    (outside program c.args.in_loop block c.args.table.now (members c.args.raised.now) statement tail c.loop-statement.table (members c.loop-statement.raised) c.loop-statement.exits along
-    (sym c.may_stand.ensures ∙ c.if-not-may_stand.true))
-
-pub walk_statements-returns-in_err-found-clause-first_fault : goal.walk_statements-returns-in_err-found-clause-first_fault
-walk_statements-returns-in_err-found-clause-first_fault t c =
-    let program = program_of c.args.walk.now.core.now in
-    let block = block_of c.args.block.now in
-    let statement = statement_of c.statement-item.result in
-    let tail = block_of (drop (c.loop-statement.statement-index + 1) c.args.block.now) in
-    let along : Along program c.args.in_loop block (T.Then statement tail) c.args.table.now c.loop-statement.table (members c.args.raised.now) (members c.loop-statement.raised) c.loop-statement.exits =
-    subst (λ rest. Along program c.args.in_loop block rest c.args.table.now c.loop-statement.table (members c.args.raised.now) (members c.loop-statement.raised) c.loop-statement.exits)
-    (next-statement c.args.block.now c.loop-statement.statement-index c.statement-item.result c.loop-statement-test.true c.statement-item.is) c.loop-statement.invariant.along in
-    let first : IfRefused (IsFirstEndFault (block_faults program c.args.in_loop true block)) c.in_err-found.field-0.0 =
-    inside program c.args.in_loop block c.args.table.now (members c.args.raised.now) statement tail c.loop-statement.table (members c.loop-statement.raised) c.loop-statement.exits along
-    (sym c.may_stand.ensures ∙ c.if-not-may_stand.false) (not-false c.loop-statement.exits.normal c.if-not-exits.false) c.in_err-found.field-0.0 c.in_err-found.ensures.first_fault in
-    search (rules, first)
-
-pub walk_statements-loop-statement-preserved : goal.walk_statements-loop-statement-preserved
-walk_statements-loop-statement-preserved t c =
-    let program = program_of c.args.walk.now.core.now in
-    let block = block_of c.args.block.now in
-    let statement = statement_of c.statement-item.result in
-    let tail = block_of (drop (c.loop-statement.statement-index + 1) c.args.block.now) in
-    let along : Along program c.args.in_loop block (T.Then statement tail) c.args.table.now c.loop-statement.table (members c.args.raised.now) (members c.loop-statement.raised) c.loop-statement.exits =
-    subst (λ rest. Along program c.args.in_loop block rest c.args.table.now c.loop-statement.table (members c.args.raised.now) (members c.loop-statement.raised) c.loop-statement.exits)
-    (next-statement c.args.block.now c.loop-statement.statement-index c.statement-item.result c.loop-statement-test.true c.statement-item.is) c.loop-statement.invariant.along in
-    record {
-      along =
-          subst (λ exits. Along program c.args.in_loop block tail c.args.table.now c.walk_statement.new.table (members c.args.raised.now) (members c.walk_statement.new.raised) exits)
-          (sym c.then-exits.ensures)
-          (along-step program c.args.in_loop block c.args.table.now (members c.args.raised.now) statement tail c.loop-statement.table (members c.loop-statement.raised) c.loop-statement.exits along
-          (sym c.may_stand.ensures ∙ c.if-not-may_stand.false) (not-false c.loop-statement.exits.normal c.if-not-exits.false) c.walk_statement.new.table (members c.walk_statement.new.raised) c.in_ok-found.found c.in_ok-found.ensures.found c.in_ok-found.ensures.accepted);
-      bound = c.walk_statement.ensures.bound ∙ c.loop-statement.invariant.bound;
-    }
-
 -- along handlers
 pub walk_handlers-loop-handler-init : goal.walk_handlers-loop-handler-init
 walk_handlers-loop-handler-init t c =
@@ -449,13 +440,13 @@ walk_form-walk_block-requires-in-Nested t c =
       (nested-fits (program_of c.args.walk.now.core.now) c.args.statement.now c.in-Nested.field-0 (block_of c.deref-in-Nested.result.now) tree c.requires.fits, c.requires.bound),
     )
 
-pub walk_statements-walk_statement-requires : goal.walk_statements-walk_statement-requires
-walk_statements-walk_statement-requires t c = (
+pub walk_block-walk_form-requires : goal.walk_block-walk_form-requires
+walk_block-walk_form-requires t c = (
   omega (arith, statement-within c.args.block.now c.loop-statement.statement-index c.statement-item.result c.loop-statement-test.true c.statement-item.is),
   (
     statement-fits (program_of c.args.walk.now.core.now) c.args.block.now c.loop-statement.statement-index c.statement-item.result
         c.loop-statement-test.true c.statement-item.is c.requires.fits,
-    c.loop-statement.invariant.bound ∙ c.requires.bound,
+    c.new-inner.ensures.bound,
   ),
 )
 
@@ -468,9 +459,3 @@ walk_handlers-walk_block-requires t c = (
     c.loop-handler.invariant.bound ∙ c.requires.bound,
   ),
 )
-
-pub walk_block-walk_statements-requires : goal.walk_block-walk_statements-requires
-walk_block-walk_statements-requires t c = (omega arith, (c.requires.fits, c.new-own.ensures.bound))
-
-pub walk_statement-walk_form-requires : goal.walk_statement-walk_form-requires
-walk_statement-walk_form-requires t c = (omega arith, (c.requires.fits, c.new-own.ensures.bound))

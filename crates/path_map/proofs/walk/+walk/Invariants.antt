@@ -8,19 +8,13 @@ use Rattle.path_map.proofs.walk.+walk.Given as goal
 
 -- each call is of something smaller, or of the same by a smaller part of the walk
 abbrev pub decreases-walk_block : goal.decreases-walk_block
-decreases-walk_block l = 5 * block_nodes (block_of l.block.now) + 5
-
-abbrev pub decreases-walk_statements : goal.decreases-walk_statements
-decreases-walk_statements l = 5 * block_nodes (block_of l.block.now) + 4
-
-abbrev pub decreases-walk_statement : goal.decreases-walk_statement
-decreases-walk_statement l = 5 * statement_nodes (statement_of l.statement.now) + 3
+decreases-walk_block l = 3 * block_nodes (block_of l.block.now) + 2
 
 abbrev pub decreases-walk_form : goal.decreases-walk_form
-decreases-walk_form l = 5 * statement_nodes (statement_of l.statement.now) + 2
+decreases-walk_form l = 3 * statement_nodes (statement_of l.statement.now) + 1
 
 abbrev pub decreases-walk_handlers : goal.decreases-walk_handlers
-decreases-walk_handlers l = 5 * handlers_nodes (handlers_of l.handlers.now) + 5
+decreases-walk_handlers l = 3 * handlers_nodes (handlers_of l.handlers.now) + 2
 
 abbrev pub invariant-walk_handlers-loop-handler : goal.invariant-walk_handlers-loop-handler
 invariant-walk_handlers-loop-handler l = record {
@@ -30,9 +24,9 @@ invariant-walk_handlers-loop-handler l = record {
   inner_bound : l.inner.bound ≡ l.fn.inner.bound;
 }
 
-abbrev pub invariant-walk_statements-loop-statement : goal.invariant-walk_statements-loop-statement
-invariant-walk_statements-loop-statement l = record {
+abbrev pub invariant-walk_block-loop-statement : goal.invariant-walk_block-loop-statement
+invariant-walk_block-loop-statement l = record {
   along : Along (program_of l.walk.core.now) l.in_loop (block_of l.block) (block_of (drop l.statement-index l.block))
-      l.fn.table l.table (members l.fn.raised) (members l.raised) l.exits;
-  bound : l.raised.bound ≡ l.fn.raised.bound;
+      l.initial.table l.table (members l.initial.own) (members l.own) l.exits;
+  bound : l.own.bound ≡ l.walk.bound;
 }

@@ -1,6 +1,6 @@
 use Rattle.std.proofs.Common.{ap, ◌∙◌}
 use Rattle.solver.specs.declared.constraints.Atom.TheVariants.{Unknown, Written}
-use Rattle.solver.proofs.EdgePlaces.{counted-left}
+use Rattle.solver.proofs.EdgeCursors.{counted-left}
 use Rattle.solver.proofs.edges.counts_of.Goals as goal
 
 pub loop-constraint-preserved : goal.loop-constraint-preserved

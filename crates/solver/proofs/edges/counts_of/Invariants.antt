@@ -1,5 +1,5 @@
 use Rattle.std.proofs.Common.{◌≡◌, length, take}
-use Rattle.solver.specs.EdgePlaces.{AreCounted}
+use Rattle.solver.specs.EdgeCursors.{AreCounted}
 use Rattle.solver.specs.Links.{links_of}
 use Rattle.solver.specs.declared.constraints.Atom.TheVariants.{Unknown, Written}
 use Rattle.solver.proofs.edges.counts_of.Given as goal

@@ -1,5 +1,5 @@
 use Rattle.std.proofs.Common.{◌≡◌, ◌++◌, drop, length, take}
-use Rattle.solver.specs.EdgePlaces.{end_from, starts_from}
+use Rattle.solver.specs.EdgeCursors.{end_from, starts_from}
 use Rattle.solver.proofs.edges.to_starts.Given as goal
 
 abbrev pub invariant-loop-part : goal.invariant-loop-part

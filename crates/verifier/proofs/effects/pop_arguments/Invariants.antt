@@ -1,5 +1,5 @@
 use Rattle.std.proofs.Common.{◌≡◌, ◌<◌, ◌≤◌, Some, length, map, reverse, take}
-use Rattle.modules.specs.Machine.{kinds_of}
+use Rattle.modules.specs.MachineParts.{kinds_of}
 use Rattle.verifier.specs.Flow.{all_popped}
 use Rattle.verifier.specs.Operands.{list_of}
 use Rattle.verifier.proofs.effects.pop_arguments.Given as goal

@@ -16,12 +16,12 @@ returns c = λ is left goes within.
     let core = walk.table.now.core.now in
     let program = program_of core in
     let body = (here (scope_of core walk.procedure)).body in
-    let middle : Progress = record c.args.progress.now { number = (c.args.progress.now.number + 1) + c.len.result; thrown = c.take_declared.new.thrown; journal = c.note_declared.new.self } in
+    let middle : Progress = record c.args.progress.now { number = (c.args.progress.now.number + 1) + c.len.result; thrown = c.take_declared.new.thrown; journal = c.note_exceptions.new.self } in
     procedure-passed core walk.table.now.core.now.labels (entries_of walk.map.now) walk.procedure c.args.barrier (c.args.barrier + 1) (c.args.progress.now.number + 1) c.len.result
     c.args.procedure.now c.deref.result.now c.deref-2.result.now c.deref-3.result.now c.deref-4.result.now c.part-begin.result c.end_exit_unknowns-exit_unknowns.result c.is_single_of_procedure-only.result left c.args.progress.now middle c.walk_block.new.progress c.add_exit_demands.new.progress
     is goes within refl refl (c.len.ensures ∙ c.args.procedure.now.throws.ok.0) c.deref.ensures.value c.deref-4.ensures.value
     (c.is_single_of_procedure-only.ensures (block_exits program body) (c.exits_at.ensures (exits_of (block_exits program body)) (map exits_of (rest_paths program body) ++ left) goes))
-    c.end_exit_unknowns-exit_unknowns.ensures c.part-begin.ensures refl refl refl c.in_ok-note_declared.ensures.calls c.in_ok-note_declared.ensures.moments c.in_ok-note_declared.ensures.count
+    c.end_exit_unknowns-exit_unknowns.ensures c.part-begin.ensures refl refl refl c.in_ok-note_exceptions.ensures.calls c.in_ok-note_exceptions.ensures.moments c.in_ok-note_exceptions.ensures.count
     c.deref-3.ensures.value (c.deref-2.ensures.value ∙ sym c.deref.ensures.value) c.in_ok-take_declared.ensures.wide (c.in_ok-take_declared.ensures.taken core.labels) c.in_ok-walk_block.ensures
     c.in_ok-add_exit_demands.ensures.unchanged c.in_ok-add_exit_demands.ensures.added
 

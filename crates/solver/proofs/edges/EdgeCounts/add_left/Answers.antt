@@ -1,10 +1,10 @@
 use Rattle.std.proofs.Common.{◌+◌, ap, arith, sym, subst, ◌∙◌}
 use Rattle.std.proofs.lemmas.List.{take_all}
-use Rattle.solver.specs.EdgePlaces.{MoreCounted, capped}
+use Rattle.solver.specs.EdgeCursors.{MoreCounted, capped}
 use Rattle.solver.specs.Links.{same}
 use Rattle.solver.specs.Looks.{one}
 use Rattle.solver.specs.declared.constraints.Atom.TheVariants.{Unknown, Written}
-use Rattle.solver.proofs.EdgePlaces.{counted-more, counted-same}
+use Rattle.solver.proofs.EdgeCursors.{counted-more, counted-same}
 use Rattle.solver.proofs.edges.EdgeCounts.add_left.Goals.{in-Written, in-Unknown}
 use Rattle.solver.proofs.edges.EdgeCounts.add_left.Goals as goal
 

@@ -1,5 +1,5 @@
 use Rattle.std.proofs.Common.{◌≡◌, length, take}
-use Rattle.solver.specs.EdgePlaces.{MoreCounted}
+use Rattle.solver.specs.EdgeCursors.{MoreCounted}
 use Rattle.solver.specs.declared.constraints.Atom.TheVariants.{Unknown, Written}
 use Rattle.solver.proofs.edges.EdgeCounts.add_left.Given as goal
 

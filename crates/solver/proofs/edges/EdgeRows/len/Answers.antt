@@ -1,5 +1,5 @@
 use Rattle.std.proofs.Common.{ap, arith, length}
-use Rattle.solver.proofs.EdgePlaces.{rows-count}
+use Rattle.solver.proofs.EdgeCursors.{rows-count}
 use Rattle.solver.proofs.edges.EdgeRows.len.Goals as goal
 
 pub returns : goal.returns

@@ -1,5 +1,5 @@
 use Rattle.std.proofs.Common.{ap, arith, length, ◌∙◌}
-use Rattle.solver.proofs.EdgePlaces.{row-bounds, row-inside, row-is}
+use Rattle.solver.proofs.EdgeCursors.{row-bounds, row-inside, row-is}
 use Rattle.solver.proofs.edges.EdgeRows.row.Goals as goal
 
 pub start_of-start-requires : goal.start_of-start-requires

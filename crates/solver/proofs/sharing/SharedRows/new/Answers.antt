@@ -7,4 +7,4 @@ pub returns : goal.returns
 returns c =
     ap (map (bits_of _)) (c.in_ok-of.ensures.items_if_clones_equal (λ y e. e))
     ∙ map-none (bits_of _) c.args.unknowns
-    (bits-first _ _ _ c.in_ok-nothing.nothing _ c.in_ok-kept.ensures.items c.in_ok-push.ensures.items c.in_ok-push-2.ensures.items ∙ c.in_ok-nothing.ensures)
+    (bits-first _ _ _ c.in_ok-nothing.nothing _ c.new-kept.ensures.items c.in_ok-push.ensures.items c.in_ok-push-2.ensures.items ∙ c.in_ok-nothing.ensures)

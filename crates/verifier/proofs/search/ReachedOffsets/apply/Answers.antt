@@ -1,5 +1,5 @@
 use Rattle.std.proofs.Common.{◌∷◌, [], refl, sym, ap, ◌∙◌}
-use Rattle.verifier.specs.Flow.{pushed}
+use Rattle.verifier.specs.SignatureParts.{pushed}
 use Rattle.verifier.specs.Operands.{list_of}
 use Rattle.verifier.proofs.Reaching.{misses_at, misses_own, applied, has_effect, pushed_met}
 use Rattle.verifier.proofs.search.ReachedOffsets.apply.Goals as goal

@@ -1,6 +1,6 @@
 use Rattle.std.proofs.Common.{length, get_or, slice_get, List, arith, sym, ap, ◌∙◌}
 use Rattle.modules.specs.Contents.{ModuleContents}
-use Rattle.modules.specs.Machine.{code_of}
+use Rattle.modules.specs.MachineParts.{code_of}
 use Rattle.modules.specs.declared.instruction.Instruction.{Instruction}
 use Rattle.verifier.specs.Positions.{VerifiedCode, positioned}
 use Rattle.verifier.proofs.Positioned.{code_there, instructions_at}
