@@ -495,7 +495,7 @@ SHAPES = [
     (many_names, 5, 400),
     (open_comments, 5, 400),
     (many_refused_flows, 5, 400),
-    (labels_around_a_cycle, 5, 400),
+    (labels_around_a_cycle, 6, 400),
     (copies_backwards, 5, 400),
     (labels_along_a_backward_chain, 5, 400),
     (long_label_named_again, 20, 40),

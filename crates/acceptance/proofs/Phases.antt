@@ -7,28 +7,29 @@ use Rattle.std.proofs.lemmas.Bool.Decides.{leb_tells}
 use Rattle.lexer.specs.Cut.{IsCut}
 use Rattle.lexer.specs.Cut as lexer
 use Rattle.lexer.specs.Terminal.{Terminal}
-use Rattle.lexer.specs.declared.fault.LexRefusal.{LexRefusal}
+use Rattle.common.specs.declared.refusal.RefusalAt.{RefusalAt}
+use Rattle.lexer.specs.declared.fault.LexRefusalKind.{LexRefusalKind}
 use Rattle.lexer.proofs.Cutting.{has_one_cut, not_cut_and_refused, has_one_refusal}
 use Rattle.lexer.proofs.Total.{is_cut_or_refused}
 use Rattle.lexer.proofs.Listed.{listed}
 use Rattle.parser.specs.Refusal as parser
-use Rattle.parser.specs.declared.fault.ParseRefusal.{ParseRefusal}
+use Rattle.parser.specs.declared.fault.ParseRefusalKind.{ParseRefusalKind}
 use Rattle.parser.proofs.Programs.{one_tree}
 use Rattle.parser.proofs.Refusals.{spelled_or_refused, spelled_not_refused, one_refusal}
 use Rattle.principals.specs.ActsFor.{PrincipalHierarchy}
-use Rattle.principals.specs.declared.fault.HierarchyRefusal.{HierarchyRefusal}
+use Rattle.principals.specs.declared.fault.HierarchyRefusalKind.{HierarchyRefusalKind}
 use Rattle.principals.specs.Laws.{HasOneHierarchy, IsReadOrRefused, IsNotReadAndRefused, HierarchiesHaveOneRefusal}
 use Rattle.syntax.specs.Grammar.{SpellsProgram}
 use Rattle.syntax.specs.Tree.{ProgramTree}
 use Rattle.labels.specs.Label.{ReaderPolicy}
 use Rattle.resolved.specs.Program.{Program}
 use Rattle.resolved.specs.ExitFaults.{exit_faults}
-use Rattle.resolved.specs.declared.fault.ExitRefusal.{ExitRefusal}
+use Rattle.resolved.specs.declared.fault.ExitRefusalKind.{ExitRefusalKind}
 use Rattle.resolved.specs.Labelled.{Demand, Labelled}
 use Rattle.resolved.specs.Flow as flow
 use Rattle.resolved.proofs.Flow.{labelled-or_refused, chain-refuses}
 use Rattle.types.specs.Finding.{Finding}
-use Rattle.types.specs.declared.fault.TypeRefusal.{TypeRefusal}
+use Rattle.types.specs.declared.fault.TypeRefusalKind.{TypeRefusalKind}
 use Rattle.types.specs.Resolution.{resolution}
 use Rattle.acceptance.specs.Accepted.{IsText, IsTreeOf, IsResolvedFrom, IsAccepted, HasHierarchy, StandFor}
 use Rattle.acceptance.specs.Refused.{IsNoText, TooLong, NotUtf8, IsHierarchyRefused, Unreadable, Wrong, IsSourceRefused, NoText, NoTokens, NoTree, WrongName, WrongEnd, WrongFlow, AreTextsRefusedAt, Hierarchy, Source}
@@ -66,13 +67,13 @@ readable bytes =
 
 -- ---- the source: what a phase let pass is not what an earlier one refused
 
-cut_refused : (source : List ℕ) (tokens : List Terminal) (refusal : LexRefusal) → IsCut source tokens → lexer.IsTextRefused source refusal → ⊥
+cut_refused : (source : List ℕ) (tokens : List Terminal) (refusal : RefusalAt LexRefusalKind) → IsCut source tokens → lexer.IsTextRefused source refusal → ⊥
 cut_refused source tokens refusal cut refused = not_cut_and_refused source tokens refusal cut refused
 
 same_tokens : (source : List ℕ) (tree : ProgramTree) (of : IsTreeOf source tree) (tokens : List Terminal) → IsCut source tokens → of.tokens ≡ tokens
 same_tokens source tree of tokens cut = has_one_cut source of.tokens tokens of.cut cut
 
-tree_refused : (source : List ℕ) (tree : ProgramTree) (tokens : List Terminal) (refusal : ParseRefusal) → IsTreeOf source tree → IsCut source tokens → parser.AreTokensRefused tokens refusal → ⊥
+tree_refused : (source : List ℕ) (tree : ProgramTree) (tokens : List Terminal) (refusal : RefusalAt ParseRefusalKind) → IsTreeOf source tree → IsCut source tokens → parser.AreTokensRefused tokens refusal → ⊥
 tree_refused source tree tokens refusal of cut refused =
     spelled_not_refused tokens tree refusal (subst (λ ts. SpellsProgram ts tree) (same_tokens source tree of tokens cut) of.spelled) refused
 
@@ -81,13 +82,13 @@ same_tree source tree other one two =
     one_tree two.tokens tree other (subst (λ ts. SpellsProgram ts tree) (same_tokens source tree one two.tokens two.cut) one.spelled) two.spelled
 
 module _ (h : PrincipalHierarchy) (source : List ℕ) where
-  named_refused : (tree : ProgramTree) (refusal : TypeRefusal) (program : Program) → IsTreeOf source tree → resolution h tree ≡ Err refusal → IsResolvedFrom h source program → ⊥
+  named_refused : (tree : ProgramTree) (refusal : RefusalAt TypeRefusalKind) (program : Program) → IsTreeOf source tree → resolution h tree ≡ Err refusal → IsResolvedFrom h source program → ⊥
   named_refused tree refusal program of refused resolved =
       let same = same_tree source tree resolved.tree of resolved.tree_of in
       let both : Err refusal ≡ Ok program = sym refused ∙ (ap (resolution h) same ∙ resolved.resolved) in
       cc
 
-  same_refusal : (tree other : ProgramTree) (refusal again : TypeRefusal) → IsTreeOf source tree → IsTreeOf source other → resolution h tree ≡ Err refusal → resolution h other ≡ Err again → refusal ≡ again
+  same_refusal : (tree other : ProgramTree) (refusal again : RefusalAt TypeRefusalKind) → IsTreeOf source tree → IsTreeOf source other → resolution h tree ≡ Err refusal → resolution h other ≡ Err again → refusal ≡ again
   same_refusal tree other refusal again one two e f =
       let both : Err refusal ≡ Err again = sym e ∙ (ap (resolution h) (same_tree source tree other one two) ∙ f) in cc
 
@@ -95,11 +96,11 @@ module _ (h : PrincipalHierarchy) (source : List ℕ) where
   same_program program other one two =
       let both : Ok program ≡ Ok other = sym one.resolved ∙ (ap (resolution h) (same_tree source one.tree two.tree one.tree_of two.tree_of) ∙ two.resolved) in cc
 
-  agreed_exit : (program other : Program) (refusal again : ExitRefusal) (faults more : List ExitRefusal) → program ≡ other → exit_faults program ≡ refusal ∷ faults → exit_faults other ≡ again ∷ more → refusal ≡ again
+  agreed_exit : (program other : Program) (refusal again : RefusalAt ExitRefusalKind) (faults more : List (RefusalAt ExitRefusalKind)) → program ≡ other → exit_faults program ≡ refusal ∷ faults → exit_faults other ≡ again ∷ more → refusal ≡ again
   agreed_exit program other refusal again faults more same e f =
       let both : refusal ∷ faults ≡ again ∷ more = sym e ∙ (ap exit_faults same ∙ f) in cc
 
-  ended_refused : (program other : Program) (refusal : ExitRefusal) (faults : List ExitRefusal) → program ≡ other → exit_faults program ≡ refusal ∷ faults → exit_faults other ≡ [] → ⊥
+  ended_refused : (program other : Program) (refusal : RefusalAt ExitRefusalKind) (faults : List (RefusalAt ExitRefusalKind)) → program ≡ other → exit_faults program ≡ refusal ∷ faults → exit_faults other ≡ [] → ⊥
   ended_refused program other refusal faults same e f =
       let both : refusal ∷ faults ≡ [] = sym e ∙ (ap exit_faults same ∙ f) in cc
 
@@ -109,7 +110,7 @@ module _ (h : PrincipalHierarchy) (source : List ℕ) where
       one_last other policy other_policy chain others last again (subst (λ p. flow.IsProgramRefused p policy chain last) same one) two
 
   -- what an earlier phase refuses does not come to a later one
-  lexed_later : (refusal : LexRefusal) → lexer.IsTextRefused source refusal → (tree : ProgramTree) → IsTreeOf source tree → ⊥
+  lexed_later : (refusal : RefusalAt LexRefusalKind) → lexer.IsTextRefused source refusal → (tree : ProgramTree) → IsTreeOf source tree → ⊥
   lexed_later refusal refused tree of = cut_refused source of.tokens refusal of.cut refused
 
   source_once : (kind other : RefusalKind) (at there : ℕ) → IsSourceRefused h source kind at → IsSourceRefused h source other there → Same kind at other there
@@ -122,7 +123,7 @@ module _ (h : PrincipalHierarchy) (source : List ℕ) where
   source_once kind other at there (NoTokens text _ _) (NoText _ _ two) = absurd (text_or_none source other there two text)
   source_once _ _ _ _ (NoTokens _ refusal refused) (NoTokens _ again refused_too) =
       let same : refusal ≡ again = has_one_refusal source refusal again refused refused_too in
-      (ap (λ (r : LexRefusal). kinds.Lex r.kind) same, ap (λ (r : LexRefusal). r.at) same)
+      (ap (λ (r : RefusalAt LexRefusalKind). kinds.Lex r.kind) same, ap (λ (r : RefusalAt LexRefusalKind). r.at) same)
   source_once kind other at there (NoTokens _ refusal refused) (NoTree _ tokens cut _ _) = absurd (cut_refused source tokens refusal cut refused)
   source_once kind _ at _ (NoTokens _ refusal refused) (WrongName tree of wrong e) = absurd (lexed_later refusal refused tree of)
   source_once kind _ at _ (NoTokens _ refusal refused) (WrongEnd program from wrong others e) = absurd (lexed_later refusal refused from.tree from.tree_of)
@@ -132,7 +133,7 @@ module _ (h : PrincipalHierarchy) (source : List ℕ) where
   source_once _ _ _ _ (NoTree _ tokens cut refusal refused) (NoTree _ others cut_too again refused_too) =
       let one : tokens ≡ others = has_one_cut source tokens others cut cut_too in
       let same : refusal ≡ again = one_refusal others refusal again (subst (λ ts. parser.AreTokensRefused ts refusal) one refused) refused_too in
-      (ap (λ (r : ParseRefusal). kinds.Parse r.kind) same, ap (λ (r : ParseRefusal). r.at) same)
+      (ap (λ (r : RefusalAt ParseRefusalKind). kinds.Parse r.kind) same, ap (λ (r : RefusalAt ParseRefusalKind). r.at) same)
   source_once kind _ at _ (NoTree _ tokens cut refusal refused) (WrongName tree of wrong e) = absurd (tree_refused source tree tokens refusal of cut refused)
   source_once kind _ at _ (NoTree _ tokens cut refusal refused) (WrongEnd program from wrong others e) = absurd (tree_refused source from.tree tokens refusal from.tree_of cut refused)
   source_once kind _ at _ (NoTree _ tokens cut refusal refused) (WrongFlow program from ended policy chain last unmet) = absurd (tree_refused source from.tree tokens refusal from.tree_of cut refused)
@@ -141,7 +142,7 @@ module _ (h : PrincipalHierarchy) (source : List ℕ) where
   source_once _ other _ there (WrongName tree of wrong e) (NoTree _ tokens cut refusal refused) = absurd (tree_refused source tree tokens refusal of cut refused)
   source_once _ _ _ _ (WrongName tree of wrong e) (WrongName other of_too again f) =
       let same : wrong ≡ again = same_refusal tree other wrong again of of_too e f in
-      (ap (λ (refusal : TypeRefusal). kinds.Name refusal.kind) same, ap (λ (refusal : TypeRefusal). refusal.at) same)
+      (ap (λ (refusal : RefusalAt TypeRefusalKind). kinds.Name refusal.kind) same, ap (λ (refusal : RefusalAt TypeRefusalKind). refusal.at) same)
   source_once _ _ _ _ (WrongName tree of wrong e) (WrongEnd program from refusal others f) = absurd (named_refused tree wrong program of e from)
   source_once _ _ _ _ (WrongName tree of wrong e) (WrongFlow program from ended policy chain last unmet) = absurd (named_refused tree wrong program of e from)
   source_once _ other _ there (WrongEnd program from wrong others e) (NoText _ _ two) = absurd (text_or_none source other there two from.tree_of.text)
@@ -150,7 +151,7 @@ module _ (h : PrincipalHierarchy) (source : List ℕ) where
   source_once _ _ _ _ (WrongEnd program from wrong others e) (WrongName tree of refusal f) = absurd (named_refused tree refusal program of f from)
   source_once _ _ _ _ (WrongEnd program from wrong others e) (WrongEnd other from_too again more f) =
       let same : wrong ≡ again = agreed_exit program other wrong again others more (same_program program other from from_too) e f in
-      (ap (λ (refusal : ExitRefusal). kinds.End refusal.kind) same, ap (λ (refusal : ExitRefusal). refusal.at) same)
+      (ap (λ (refusal : RefusalAt ExitRefusalKind). kinds.End refusal.kind) same, ap (λ (refusal : RefusalAt ExitRefusalKind). refusal.at) same)
   source_once _ _ _ _ (WrongEnd program from wrong others e) (WrongFlow other from_too ended policy chain last unmet) =
       absurd (ended_refused program other wrong others (same_program program other from from_too) e ended)
   source_once _ other _ there (WrongFlow program from ended policy chain last unmet) (NoText _ _ two) = absurd (text_or_none source other there two from.tree_of.text)
@@ -181,7 +182,7 @@ module _ (h : PrincipalHierarchy) (source : List ℕ) where
   checked : (program : Program) → IsResolvedFrom h source program → ((found : Program) × IsAccepted h source found) ⊎ Refusal
   checked program from = by_exits (exit_faults program) refl
     where
-      by_exits : (faults : List ExitRefusal) → exit_faults program ≡ faults → ((found : Program) × IsAccepted h source found) ⊎ Refusal
+      by_exits : (faults : List (RefusalAt ExitRefusalKind)) → exit_faults program ≡ faults → ((found : Program) × IsAccepted h source found) ⊎ Refusal
       by_exits (refusal ∷ others) e = inr (kinds.End refusal.kind, refusal.at, WrongEnd program from refusal others e)
       by_exits [] e =
           ⊎_elim
@@ -229,7 +230,7 @@ module _ (laws : HierarchyLaws) where
   hierarchy_once text kind other at there (Wrong is_text refusal refused) (Unreadable _ _ two) = absurd (text_or_none text other there two is_text)
   hierarchy_once text _ _ _ _ (Wrong _ refusal refused) (Wrong _ again refused_too) =
       let same : refusal ≡ again = laws.one_refusal text refusal again refused refused_too in
-      (ap (λ (r : HierarchyRefusal). kinds.Hierarchy r.kind) same, ap (λ (r : HierarchyRefusal). r.at) same)
+      (ap (λ (r : RefusalAt HierarchyRefusalKind). kinds.Hierarchy r.kind) same, ap (λ (r : RefusalAt HierarchyRefusalKind). r.at) same)
 
   hierarchy_or_refused : (text : List ℕ) (h : PrincipalHierarchy) (kind : RefusalKind) (at : ℕ) → HasHierarchy text h → IsHierarchyRefused text kind at → ⊥
   hierarchy_or_refused text h kind at has (Unreadable _ _ no_text) =

@@ -6,21 +6,22 @@ use Rattle.std.specs.Str.{is_utf8}
 use Rattle.lexer.specs.Cut.{IsCut}
 use Rattle.lexer.specs.Cut as lexer
 use Rattle.lexer.specs.Terminal.{Terminal}
-use Rattle.lexer.specs.declared.fault.LexRefusal.{LexRefusal}
+use Rattle.common.specs.declared.refusal.RefusalAt.{RefusalAt}
+use Rattle.lexer.specs.declared.fault.LexRefusalKind.{LexRefusalKind}
 use Rattle.parser.specs.Refusal as parser
-use Rattle.parser.specs.declared.fault.ParseRefusal.{ParseRefusal}
+use Rattle.parser.specs.declared.fault.ParseRefusalKind.{ParseRefusalKind}
 use Rattle.principals.specs.ActsFor.{PrincipalHierarchy}
 use Rattle.principals.specs.HierarchyText.{IsRefusedText}
-use Rattle.principals.specs.declared.fault.HierarchyRefusal.{HierarchyRefusal}
+use Rattle.principals.specs.declared.fault.HierarchyRefusalKind.{HierarchyRefusalKind}
 use Rattle.syntax.specs.Tree.{ProgramTree}
 use Rattle.labels.specs.Label.{ReaderPolicy}
 use Rattle.resolved.specs.Program.{Program}
 use Rattle.resolved.specs.ExitFaults.{exit_faults}
-use Rattle.resolved.specs.declared.fault.ExitRefusal.{ExitRefusal}
+use Rattle.resolved.specs.declared.fault.ExitRefusalKind.{ExitRefusalKind}
 use Rattle.resolved.specs.Labelled.{Demand}
 use Rattle.resolved.specs.Flow as flow
 use Rattle.types.specs.Resolution.{resolution}
-use Rattle.types.specs.declared.fault.TypeRefusal.{TypeRefusal}
+use Rattle.types.specs.declared.fault.TypeRefusalKind.{TypeRefusalKind}
 use Rattle.acceptance.specs.Accepted.{IsText, IsTreeOf, IsResolvedFrom, HasHierarchy}
 use Rattle.acceptance.specs.declared.kind.RefusalKind.{RefusalKind}
 use Rattle.acceptance.specs.declared.kind.RefusalKind.TheVariants as kinds
@@ -36,20 +37,20 @@ pub data IsNoText (bytes : List ℕ) : RefusalKind → (at : ℕ) → Type 0 whe
 -- why the text of a hierarchy is refused
 pub data IsHierarchyRefused (text : List ℕ) : RefusalKind → (at : ℕ) → Type 0 where
   Unreadable : (kind : RefusalKind) (at : ℕ) → IsNoText text kind at → IsHierarchyRefused text kind at
-  Wrong : IsText text → (refusal : HierarchyRefusal) → IsRefusedText text refusal
+  Wrong : IsText text → (refusal : RefusalAt HierarchyRefusalKind) → IsRefusedText text refusal
       → IsHierarchyRefused text (kinds.Hierarchy refusal.kind) refusal.at
 
 -- why a source is refused under a hierarchy: the first fault of its tokens, of its tree, of names, types and sizes, or of the exits,
 -- or the first demand that no labelling meets
 pub data IsSourceRefused (h : PrincipalHierarchy) (source : List ℕ) : RefusalKind → (at : ℕ) → Type 0 where
   NoText : (kind : RefusalKind) (at : ℕ) → IsNoText source kind at → IsSourceRefused h source kind at
-  NoTokens : IsText source → (refusal : LexRefusal) → lexer.IsTextRefused source refusal
+  NoTokens : IsText source → (refusal : RefusalAt LexRefusalKind) → lexer.IsTextRefused source refusal
       → IsSourceRefused h source (kinds.Lex refusal.kind) refusal.at
-  NoTree : IsText source → (tokens : List Terminal) → IsCut source tokens → (refusal : ParseRefusal)
+  NoTree : IsText source → (tokens : List Terminal) → IsCut source tokens → (refusal : RefusalAt ParseRefusalKind)
       → parser.AreTokensRefused tokens refusal → IsSourceRefused h source (kinds.Parse refusal.kind) refusal.at
-  WrongName : (tree : ProgramTree) → IsTreeOf source tree → (refusal : TypeRefusal) → resolution h tree ≡ Err refusal
+  WrongName : (tree : ProgramTree) → IsTreeOf source tree → (refusal : RefusalAt TypeRefusalKind) → resolution h tree ≡ Err refusal
       → IsSourceRefused h source (kinds.Name refusal.kind) refusal.at
-  WrongEnd : (program : Program) → IsResolvedFrom h source program → (refusal : ExitRefusal) (others : List ExitRefusal)
+  WrongEnd : (program : Program) → IsResolvedFrom h source program → (refusal : RefusalAt ExitRefusalKind) (others : List (RefusalAt ExitRefusalKind))
       → exit_faults program ≡ refusal ∷ others → IsSourceRefused h source (kinds.End refusal.kind) refusal.at
   WrongFlow : (program : Program) → IsResolvedFrom h source program → exit_faults program ≡ [] → (policy : ReaderPolicy)
       (chain : List Demand) (last : Demand) → flow.IsProgramRefused program policy chain last

@@ -1,5 +1,8 @@
 //! What can be wrong with two texts, and the numbers and the words by which it is reported.
 
+ghost use Rattle.acceptance.specs.declared.kind.RefusalKind.TheVariants.{End, Lex, Name, Parse};
+ghost use Rattle.std.specs.Prelude.{◌≡◌};
+
 use common::{Message, Reported};
 use lexer::LexRefusalKind;
 use parser::ParseRefusalKind;
@@ -53,5 +56,37 @@ impl Reported for RefusalKind {
             RefusalKind::End(kind) => kind.message(),
             RefusalKind::FlowNotAllowed => Message::new(601, "flow not allowed"),
         }
+    }
+}
+
+impl From<LexRefusalKind> for RefusalKind {
+    ghost from_gives = { λ lower kind. kind ≡ Lex lower };
+
+    fn from(refused: LexRefusalKind) -> RefusalKind {
+        RefusalKind::Lex(refused)
+    }
+}
+
+impl From<ParseRefusalKind> for RefusalKind {
+    ghost from_gives = { λ lower kind. kind ≡ Parse lower };
+
+    fn from(refused: ParseRefusalKind) -> RefusalKind {
+        RefusalKind::Parse(refused)
+    }
+}
+
+impl From<TypeRefusalKind> for RefusalKind {
+    ghost from_gives = { λ lower kind. kind ≡ Name lower };
+
+    fn from(refused: TypeRefusalKind) -> RefusalKind {
+        RefusalKind::Name(refused)
+    }
+}
+
+impl From<ExitRefusalKind> for RefusalKind {
+    ghost from_gives = { λ lower kind. kind ≡ End lower };
+
+    fn from(refused: ExitRefusalKind) -> RefusalKind {
+        RefusalKind::End(refused)
     }
 }

@@ -9,7 +9,8 @@ use Rattle.modules.specs.declared.fault.FormatRefusalKind.TheVariants.{Trailing}
 use Rattle.modules.specs.declared.fault.ReadRefusal.{ReadRefusal}
 use Rattle.bytecode.specs.Decoded.{first_refusal, refusal_of}
 use Rattle.bytecode.specs.Laws.{BytesAreSpelledOrRefused}
-use Rattle.bytecode.specs.declared.fault.FormatRefusal.{FormatRefusal}
+use Rattle.common.specs.declared.refusal.RefusalAt.{RefusalAt}
+use Rattle.modules.specs.declared.fault.FormatRefusalKind.{FormatRefusalKind}
 use Rattle.bytecode.proofs.Again.{again}
 use Rattle.bytecode.proofs.Coherent.{Coherent}
 use Rattle.bytecode.proofs.Lawful.{module_file-coherent}
@@ -48,9 +49,9 @@ one_spelling {A} form coherent x y a b more others h k e =
 
 -- bytes that are read spell what is read, and others have a first refusal
 read_or_refused : (bytes : List ℕ) → IsBytes bytes → (r : Result ModuleContents ReadRefusal) → read_all module_file bytes ≡ r
-    → ((m : ModuleContents) × Spells module_file m bytes) ⊎ ((refusal : FormatRefusal) × (first_refusal bytes ≡ Some refusal))
+    → ((m : ModuleContents) × Spells module_file m bytes) ⊎ ((refusal : RefusalAt FormatRefusalKind) × (first_refusal bytes ≡ Some refusal))
 read_or_refused bytes fits (Ok m) e = inl (m, module_taken bytes m fits e)
-read_or_refused bytes fits (Err stop) e = inr (record { kind = stop.kind; offset = length bytes - stop.left }, ap (refusal_of bytes) e)
+read_or_refused bytes fits (Err stop) e = inr (record { kind = stop.kind; at = length bytes - stop.left }, ap (refusal_of bytes) e)
 
 pub spelled_or_refused : BytesAreSpelledOrRefused
 spelled_or_refused bytes each =

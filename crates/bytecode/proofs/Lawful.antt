@@ -93,6 +93,12 @@ numbered_width version byte n x e =
     let f = found-has (λ y. eqb (opcode_of y) byte) (λ y. width_after version (opcode_of y) ≡ Some 4) (numbered n) x (refl, (refl, (refl, (refl, (refl, (refl, (refl, (refl, (refl, (refl, (refl, (refl, (refl, (refl, (refl, (refl, tt)))))))))))))))) e in
     subst (λ (b : ℕ). width_after version b ≡ Some 4) (eqb-true _ _ f.0) f.1
 
+-- an opcode that no operand follows is so in each version that has its instruction
+pub plain_width : (version : Version) (byte : ℕ) (x : Instruction) → with_opcode byte plain ≡ Some x → has_instruction version x ≡ true → width_after version byte ≡ Some 0
+plain_width version byte x e has =
+    let f = found-has (λ y. eqb (opcode_of y) byte) (λ y. width_after version (opcode_of y) ≡ cond (has_instruction version y) (Some 0) None) plain x (refl, (refl, (refl, (refl, (refl, (refl, (refl, (refl, (refl, (refl, (refl, (refl, (refl, (refl, (refl, (refl, (refl, (refl, (refl, (refl, (refl, (refl, (refl, (refl, tt)))))))))))))))))))))))) e in
+    subst (λ (b : ℕ). width_after version b ≡ Some 0) (eqb-true _ _ f.0) (f.1 ∙ ap (λ (b : Bool). cond b (Some 0) None) has)
+
 three_widths : (operand : Operand) (n : ℕ) → operand_width operand ≡ n → (n ≡ 0) ⊎ ((n ≡ 1) ⊎ (n ≡ 4))
 three_widths Absent n e = inl (sym e)
 three_widths (Boolean b) n e = inr (inl (sym e))

@@ -5,10 +5,11 @@ use Rattle.modules.specs.Contents.{ModuleContents}
 use Rattle.modules.specs.ByteFormat.{Spells}
 use Rattle.modules.specs.Format.{module_file}
 use Rattle.bytecode.specs.Decoded.{first_refusal}
-use Rattle.bytecode.specs.declared.fault.FormatRefusal.{FormatRefusal}
+use Rattle.common.specs.declared.refusal.RefusalAt.{RefusalAt}
+use Rattle.modules.specs.declared.fault.FormatRefusalKind.{FormatRefusalKind}
 
 -- each list of bytes spells a module, or has a first refusal
 abbrev pub BytesAreSpelledOrRefused : Type 0
 BytesAreSpelledOrRefused =
     (bytes : List ℕ) → All (λ byte. byte < 256) bytes
-    → ((m : ModuleContents) × Spells module_file m bytes) ⊎ ((refusal : FormatRefusal) × (first_refusal bytes ≡ Some refusal))
+    → ((m : ModuleContents) × Spells module_file m bytes) ⊎ ((refusal : RefusalAt FormatRefusalKind) × (first_refusal bytes ≡ Some refusal))

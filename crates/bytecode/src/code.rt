@@ -5,14 +5,13 @@ ghost use Rattle.modules.specs.ByteFormat.{Code, code_at, instruction_in, read};
 ghost use Rattle.modules.specs.Opcodes.{instructions};
 ghost use Rattle.bytecode.specs.Reading.{Decodes};
 ghost use Rattle.modules.specs.declared.version.Version.{Version};
-ghost use Rattle.std.specs.Prelude.{[], IfOk, IfSome, Ok, OnOk, ◌<◌, ◌≡◌, ◌≤◌};
-ghost use Rattle.std.specs.Vec.{vec_capacity, vec_len};
+ghost use Rattle.std.specs.Prelude.{[], IfOk, IfSome, Ok, ℕ, ◌<◌, ◌≡◌, ◌≤◌};
 
-use crate::reading::{FieldFault, give_back, read_byte, read_number, read_text, refuse};
+use crate::reading::{FieldFault, give_back, make_room, read_byte, read_number, read_text, refuse};
 use modules::instruction::Instruction;
-use modules::opcode::{instruction_of, numbered_instruction, width_after};
+use modules::opcode::{entry_of, instruction_of, numbered_instruction, width_after};
 use modules::{FormatRefusalKind, Version};
-use std::alloc::{AllocError, Global};
+use std::alloc::Global;
 
 /// The instruction with a number at the front, if there is one that ends within the room that is left in its code. Each version has it.
 fn read_numbered(room: u32, bytes: &[u8]) -> Option<(Instruction, &[u8])>
@@ -32,6 +31,23 @@ fn read_numbered(room: u32, bytes: &[u8]) -> Option<(Instruction, &[u8])>
     match numbered_instruction(*opcode, number) {
         Some(instruction) => Some((instruction, after)),
         None => None,
+    }
+}
+
+/// The instruction without an operand at the front, if there is one and the version has it.
+fn read_plain(version: Version, bytes: &[u8]) -> Option<(Instruction, &[u8])>
+    ensures gives { IfSome result (λ x. (room : ℕ) → 0 < room →
+        instruction_in (instructions version) room bytes.now ≡ Ok (x.0, x.1.now)) }
+    ensures inside { IfSome result (λ x. width_of x.0 ≡ 1) }
+{
+    let [opcode, rest @ ..] = bytes else {
+        return None;
+    };
+    let instruction = instruction_of(*opcode, &[])?;
+    if version.has(entry_of(instruction).since) {
+        Some((instruction, rest))
+    } else {
+        None
     }
 }
 
@@ -70,18 +86,6 @@ fn room_at_first(size: u32, bytes: &[u8]) -> usize {
     }
 }
 
-// Makes room for one more instruction, where there is none. It is inlined, so that nothing is called where there is.
-#[inline(always)]
-fn make_room(code: &mut Vec<Instruction>) -> Result<(), AllocError>
-    ensures same { OnOk result (code.new.items ≡ code.old.items) }
-    ensures room { OnOk result (vec_len code.new < vec_capacity code.new) }
-{
-    if code.len() < code.capacity() {
-        return Ok(());
-    }
-    code.reserve(1)
-}
-
 /// The instructions of a version that the next `size` bytes are. Room is made by the size only where as many bytes are there, and what
 /// is not taken in the end is given back. It is not inlined, so that the loop has all registers for itself.
 #[inline(never)]
@@ -103,6 +107,10 @@ fn read_instructions(
         if let Some((next, after)) = read_numbered(room, rest) {
             code.push_reserved(next);
             room -= next.width() as u32;
+            rest = after;
+        } else if let Some((next, after)) = read_plain(version, rest) {
+            code.push_reserved(next);
+            room -= 1;
             rest = after;
         } else {
             let (next, after) = read_instruction(version, room, rest)?;

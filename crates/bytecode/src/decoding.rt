@@ -151,10 +151,10 @@ pub fn decode(alloc: Global, bytes: &[u8]) -> Result<Module, FormatFault>
         Ok(contents) => Ok(Module::new(contents)),
         Err(OrNoMemory::NoMemory) => Err(OrNoMemory::NoMemory),
         Err(OrNoMemory::Refused(stop)) => {
-            let offset = bytes.len() - stop.left;
+            let at = bytes.len() - stop.left;
             Err(OrNoMemory::Refused(FormatRefusal {
                 kind: stop.kind,
-                offset,
+                at,
             }))
         }
     }

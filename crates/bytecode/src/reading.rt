@@ -3,12 +3,13 @@
 ghost use Rattle.modules.specs.ByteFormat.{byte_at, bytes_at, each_at, number_at, Read, stop_at};
 ghost use Rattle.common.specs.declared.fault.OrNoMemory.TheVariants.{Refused};
 ghost use Rattle.bytecode.specs.Reading.{Decodes};
-ghost use Rattle.std.specs.Prelude.{[], IfOk, List, ℕ, ◌++◌, ◌∷◌, ◌≡◌};
+ghost use Rattle.std.specs.Prelude.{[], IfOk, List, OnOk, ℕ, ◌++◌, ◌<◌, ◌∷◌, ◌≡◌};
+ghost use Rattle.std.specs.Vec.{vec_capacity, vec_len};
 
 use byteorder::{BigEndian, ByteOrder};
 use common::OrNoMemory;
 use modules::fault::{FormatRefusalKind, ReadRefusal};
-use std::alloc::Global;
+use std::alloc::{AllocError, Global};
 
 /// Why a field was not read.
 pub(crate) type FieldFault = OrNoMemory<ReadRefusal>;
@@ -82,6 +83,18 @@ pub(crate) trait Element {
         ensures holds { IfOk result (λ x. holds self.now state.new (before.now ++ x.0 ∷ [])) };
 }
 
+/// Makes room for one more item, where there is none. It is inlined, so that nothing is called where there is.
+#[inline(always)]
+pub(crate) fn make_room<T>(items: &mut Vec<T>) -> Result<(), AllocError>
+    ensures same { OnOk result (items.new.items ≡ items.old.items) }
+    ensures room { OnOk result (vec_len items.new < vec_capacity items.new) }
+{
+    if items.len() < items.capacity() {
+        return Ok(());
+    }
+    items.reserve(1)
+}
+
 /// Gives back the room that a list does not take, where that is more than a quarter of what it takes.
 pub(crate) fn give_back<T>(items: &mut Vec<T>)
     ensures { items.new.items ≡ items.old.items }
@@ -113,7 +126,8 @@ where
     let mut rest = bytes;
     for _ in 0..count {
         let (item, after) = element.read(alloc, &mut state, &items, rest)?;
-        items.push(item)?;
+        make_room(&mut items)?;
+        items.push_reserved(item);
         rest = after;
     }
     give_back(&mut items);

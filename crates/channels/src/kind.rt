@@ -1,7 +1,7 @@
 ghost use Rattle.channels.specs.RefusalKinds.{world_message};
 ghost use Rattle.std.specs.Prelude.{Some};
 
-use common::{Message, OrNoMemory, Reported};
+use common::{OrNoMemory, Reported};
 use std::error::Error;
 use std::fmt;
 
@@ -16,19 +16,6 @@ pub enum WorldRefusalKind {
     RepeatedChannel,
     /// 854: a number outside 32 bits.
     NumberOutOfRange,
-}
-
-impl Reported for WorldRefusalKind {
-    ghost contents = { world_message };
-
-    fn message(&self) -> Message {
-        match self {
-            WorldRefusalKind::Syntax => Message::new(851, "syntax"),
-            WorldRefusalKind::UnknownChannel => Message::new(852, "unknown channel"),
-            WorldRefusalKind::RepeatedChannel => Message::new(853, "repeated channel"),
-            WorldRefusalKind::NumberOutOfRange => Message::new(854, "number out of range"),
-        }
-    }
 }
 
 /// What is wrong with the text of a world: this line, counted from 1, is the first wrong one.

@@ -2,6 +2,7 @@
 #![tactic(auto)]
 
 pub mod kind;
+mod message;
 pub mod sent;
 pub mod sink;
 pub mod view;

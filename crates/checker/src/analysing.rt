@@ -10,10 +10,9 @@ ghost use Rattle.resolved.specs.ExitFaults.{exit_faults};
 ghost use Rattle.std.specs.Prelude.{IfErr, IfOk, [], ◌≡◌};
 ghost use Rattle.syntax.specs.Tree.{program_tree};
 
-use crate::found::PhaseRefusal;
 use acceptance::RefusalKind;
-use common::OrNoMemory;
 use common::limits::MAX_TEXT;
+use common::{OrNoMemory, RefusalAt};
 use lexer::lex;
 use parser::parse;
 use path_map::{Ends, ends};
@@ -35,7 +34,7 @@ pub(crate) fn analyse(
     alloc: Global,
     hierarchy: &Hierarchy,
     source: &str,
-) -> Result<Analysed, OrNoMemory<PhaseRefusal>>
+) -> Result<Analysed, OrNoMemory<RefusalAt<RefusalKind>>>
     // The program is the one that the source stands for, and has no fault of its exits.
     ensures resolved { IfOk result (λ analysed.
         IsResolvedFrom hierarchy.now source.now (program_of analysed.core)) }
@@ -50,26 +49,29 @@ pub(crate) fn analyse(
     ensures before_labels { IfErr result (IfRefused IsBeforeLabels) }
 {
     if source.len() > MAX_TEXT {
-        return Err(OrNoMemory::Refused(PhaseRefusal {
+        return Err(OrNoMemory::Refused(RefusalAt {
             kind: RefusalKind::TextTooLong,
             at: 0,
         }));
     }
     let tree = read(alloc, source)?;
-    let core = resolve(alloc, tree, hierarchy).map_err(OrNoMemory::cast)?;
-    let ends = ends(alloc, &core).map_err(OrNoMemory::cast)?;
+    let core = resolve(alloc, tree, hierarchy).map_err(OrNoMemory::cast_kind)?;
+    let ends = ends(alloc, &core).map_err(OrNoMemory::cast_kind)?;
     Ok(Analysed { core, ends })
 }
 
 // The tree that a source spells, whose names are slices of it.
-fn read(alloc: Global, source: &str) -> Result<syntax::Program<'_>, OrNoMemory<PhaseRefusal>>
+fn read(
+    alloc: Global,
+    source: &str,
+) -> Result<syntax::Program<'_>, OrNoMemory<RefusalAt<RefusalKind>>>
     requires text { IsText source.now }
     ensures spelled { IfOk result (λ tree. IsTreeOf source.now (program_tree tree)) }
     ensures first_fault { (h : PrincipalHierarchy) → IfErr result (IfRefused
         (IsFoundRefusal h source.now)) }
     ensures before_labels { IfErr result (IfRefused IsBeforeLabels) }
 {
-    let tokens = lex(alloc, source).map_err(OrNoMemory::cast)?;
-    let tree = parse(alloc, tokens.as_slice()).map_err(OrNoMemory::cast)?;
+    let tokens = lex(alloc, source).map_err(OrNoMemory::cast_kind)?;
+    let tree = parse(alloc, tokens.as_slice()).map_err(OrNoMemory::cast_kind)?;
     Ok(tree)
 }

@@ -6,7 +6,6 @@ mod analysing;
 pub mod checked;
 pub mod fault;
 mod flow;
-mod found;
 pub mod phases;
 pub mod texts;
 

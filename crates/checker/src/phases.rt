@@ -17,10 +17,9 @@ use crate::analysing::{Analysed, analyse};
 use crate::checked::Checked;
 use crate::fault::{Fault, RefusedFlow, refusal_at};
 use crate::flow::flow_of;
-use crate::found::PhaseRefusal;
 use acceptance::laws::resolved_programs_have_names;
 use acceptance::{RefusalKind, Text};
-use common::OrNoMemory;
+use common::{OrNoMemory, RefusalAt};
 use constraints::gather;
 use path_map::Ends;
 use principals::Hierarchy;
@@ -61,7 +60,7 @@ pub fn check(alloc: Global, hierarchy: &Hierarchy, source: &str) -> Result<Check
     let analysed = match analyse(alloc, hierarchy, source) {
         Ok(analysed) => analysed,
         Err(OrNoMemory::NoMemory) => return Err(OrNoMemory::NoMemory),
-        Err(OrNoMemory::Refused(PhaseRefusal { kind, at })) => {
+        Err(OrNoMemory::Refused(RefusalAt { kind, at })) => {
             let bytes = source.as_bytes();
             let refusal = refusal_at(Text::Source, bytes, kind, at, None);
             return Err(OrNoMemory::Refused(refusal));

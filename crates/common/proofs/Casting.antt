@@ -1,9 +1,10 @@
 -- A fault that a caller passes on in its own type.
-use Rattle.std.proofs.Common.{◌≡◌, ◌∙◌, sym, subst}
+use Rattle.std.proofs.Common.{◌≡◌, ℕ, ◌∙◌, refl, sym, subst}
 use Rattle.std.specs.Prelude.{Result, Ok, Err, IfErr, IfOk, IsErrAnd, MatchResult}
 use Rattle.common.specs.Answers.{Answers, IfRefused, IsCast}
 use Rattle.common.specs.declared.fault.OrNoMemory.{OrNoMemory}
 use Rattle.common.specs.declared.fault.OrNoMemory.TheVariants.{NoMemory, Refused}
+use Rattle.common.specs.declared.refusal.RefusalAt.{RefusalAt}
 
 pub refused-weaker : {R : Type 0} (P Q : R → Type 0) → ((r : R) → P r → Q r) → (fault : OrNoMemory R) → IfRefused P fault
     → IfRefused Q fault
@@ -16,6 +17,11 @@ pub cast-refused : {R S : Type 0} {Becomes : R → S → Type 0} (given : OrNoMe
     → IfRefused Q fault
 cast-refused NoMemory P Q step fault is holds = subst (IfRefused Q) (sym is) tt
 cast-refused (Refused r) P Q step fault is holds = subst (IfRefused Q) (sym is.1) (step r is.0 is.2 holds)
+
+-- a refusal whose kind and byte are these
+pub refusal-is : {K : Type 0} (refusal : RefusalAt K) (kind : K) (at : ℕ) → refusal.kind ≡ kind → refusal.at ≡ at
+    → refusal ≡ record { kind = kind; at = at }
+refusal-is refusal kind at of here = rw (← of, ← here) refl
 
 -- the answer of a call whose fault is mapped: what holds of each fault of the call holds of what it becomes
 pub map-answer : {T E F : Type 0} {Becomes : E → F → Type 0} (P : E → Type 0) (Q : F → Type 0)

@@ -3,6 +3,7 @@
 use Rattle.std.specs.Prelude.{◌≡◌, ℕ, List, Option, Some, Result, MatchResult, codes}
 use Rattle.common.specs.declared.fault.OrNoMemory.{OrNoMemory}
 use Rattle.common.specs.declared.fault.OrNoMemory.TheVariants.{NoMemory, Refused}
+use Rattle.common.specs.declared.refusal.RefusalAt.{RefusalAt}
 
 -- the fault is out of memory, or a refusal of which P holds
 abbrev pub IfRefused : {R : Type 0} → (R → Type 0) → OrNoMemory R → Type 0
@@ -17,6 +18,10 @@ Answers P Q result = MatchResult result P (IfRefused Q)
 abbrev pub IsCast : {R S : Type 0} → (R → S → Type 0) → OrNoMemory R → OrNoMemory S → Type 0
 IsCast Becomes NoMemory fault = fault ≡ NoMemory
 IsCast {S = S} Becomes (Refused refusal) fault = (other : S) × (fault ≡ Refused other) × Becomes refusal other
+
+-- one refusal is the other at the same byte with its kind in another type
+abbrev pub HasKind : {K L : Type 0} → (K → L → Type 0) → RefusalAt K → RefusalAt L → Type 0
+HasKind Becomes refusal other = Becomes refusal.kind other.kind × (other.at ≡ refusal.at)
 
 -- what is printed of a fault
 abbrev pub fault_text : {R : Type 0} → (R → Option (List ℕ)) → OrNoMemory R → Option (List ℕ)

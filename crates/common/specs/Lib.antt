@@ -1,6 +1,7 @@
 pub mod Answers
-pub mod Bits
 pub mod Exceptions
 pub mod Functions
 pub mod Integers
 pub mod Message
+pub mod Operators
+pub mod Results

@@ -1,5 +1,5 @@
-//! What several crates share, and what knows none of them: base types, the directions of channels, what was sent on one, limits, the
-//! built-in exceptions, and the shape of faults.
+//! What several crates share, and what knows none of them: base types, operators, the directions of channels, what was sent on one,
+//! limits, the built-in exceptions, and the shape of faults and of refusals.
 #![tactic(auto)]
 
 pub mod base_type;
@@ -9,6 +9,8 @@ pub mod fault;
 pub mod laws;
 pub mod limits;
 pub mod message;
+pub mod operator;
+pub mod refusal;
 pub mod sent;
 pub mod version;
 
@@ -16,5 +18,7 @@ pub use base_type::BaseType;
 pub use direction::Direction;
 pub use fault::OrNoMemory;
 pub use message::{Message, Reported};
+pub use operator::{Arithmetic, BitOperator, Comparison, Connective, Order, Prefix, Sameness};
+pub use refusal::RefusalAt;
 pub use sent::Pair;
 pub use version::VERSION;

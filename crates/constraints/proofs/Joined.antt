@@ -7,7 +7,7 @@ use Rattle.labels.specs.Label.{Label}
 use Rattle.resolved.specs.declared.program.Core.{Core}
 use Rattle.resolved.specs.CoreOf.{program_of}
 use Rattle.resolved.specs.Program.{Program}
-use Rattle.resolved.specs.declared.expression.Connective.{Connective}
+use Rattle.common.specs.declared.operator.Connective.{Connective}
 use Rattle.resolved.specs.declared.expression.Operator.{Operator}
 use Rattle.resolved.specs.Tree.{Expression, Binary, Short}
 use Rattle.common.specs.declared.exceptions.TheConstants.{ARITH}

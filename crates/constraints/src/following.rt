@@ -1,5 +1,5 @@
 //! Which labels of calls flow on to those of later calls: a call that is made after another one has at least its label.
-ghost use Rattle.constraints.specs.Following.{AreFollowed, AreOnward, IsOver, IsWay};
+ghost use Rattle.constraints.specs.Following.{AreFollowed, AreOnward, IsOver, IsCallPath};
 ghost use Rattle.constraints.specs.Merging.{IsFollowed};
 ghost use Rattle.solver.specs.declared.constraints.Atom.TheVariants.{Unknown};
 ghost use Rattle.constraints.specs.Added.{Stored};
@@ -19,7 +19,7 @@ const ROUNDS: usize = 64;
 /// For each unknown that is the label of a call that of another call to which it flows, and one that may be farther on; itself where
 /// none is known.
 #[derive(Drop)]
-pub struct Way {
+pub struct CallPath {
     pub next: Vec<u32>,
     pub far: Vec<u32>,
 }
@@ -27,8 +27,8 @@ pub struct Way {
 /// Two ways on from each label of a call: where control parts, one goes by the last branch and one by the first.
 #[derive(Drop)]
 pub struct Following {
-    pub last: Way,
-    pub first: Way,
+    pub last: CallPath,
+    pub first: CallPath,
 }
 
 /// For each unknown one to which it flows: that with the greatest number, and that with the least one above its own; itself where there
@@ -196,20 +196,20 @@ fn depth_of(depths: &[u32], unknown: u32) -> u32 {
     }
 }
 
-impl Way {
+impl CallPath {
     // The labels of calls, of this many unknowns.
-    fn new(alloc: Global, count: u32) -> Result<Way, AllocError>
-        ensures { IfOk result (λ way. (real : ℕ) (base : List Stored) → IsWay real base way) }
+    fn new(alloc: Global, count: u32) -> Result<CallPath, AllocError>
+        ensures { IfOk result (λ way. (real : ℕ) (base : List Stored) → IsCallPath real base way) }
     {
         let next = themselves(alloc, count)?;
         let far = themselves(alloc, count)?;
-        Ok(Way { next, far })
+        Ok(CallPath { next, far })
     }
 
     // One farther on than a label that comes next, so that few rounds go a long way: as far as the next one's and the one after that, if
     // these go as far; or else that label.
     fn far_from(&self, depths: &[u32], next: u32) -> u32
-        ensures { (real : ℕ) (base : List Stored) → IsWay real base self.now →
+        ensures { (real : ℕ) (base : List Stored) → IsCallPath real base self.now →
             IsFollowed real base (Unknown next) (Unknown result) }
     {
         let far = after(&self.far, next);
@@ -226,7 +226,7 @@ impl Way {
     fn add(&mut self, depths: &mut Vec<u32>, from: u32, next: u32)
         ensures { (real : ℕ) (base : List Stored) →
             IsFollowed real base (Unknown from) (Unknown next) →
-            IsWay real base self.old → IsWay real base self.new }
+            IsCallPath real base self.old → IsCallPath real base self.new }
     {
         if from == next {
             return;
@@ -245,14 +245,14 @@ impl Way {
         rows: &[u32],
         others: &[u32],
         calls: &[Called],
-    ) -> Result<Way, AllocError>
+    ) -> Result<CallPath, AllocError>
         ensures { IfOk result (λ way. (real : ℕ) (base : List Stored) →
             AreFollowed real base rows.now → AreFollowed real base others.now →
-            IsWay real base way) }
+            IsCallPath real base way) }
     {
         let labels = labels_of(alloc, count, calls)?;
         let mut depths = vec![in alloc; 0u32; count as usize]?;
-        let mut way = Way::new(alloc, count)?;
+        let mut way = CallPath::new(alloc, count)?;
         for k in 0..calls.len() {
             let from = calls[calls.len() - 1 - k].own;
             let next = later_label(rows, others, &labels, from);
@@ -263,7 +263,7 @@ impl Way {
 
     // The label that is next on the way, or one farther on that is not after another one.
     fn step_toward(&self, at: u32, to: u32) -> u32
-        ensures { (real : ℕ) (base : List Stored) → IsWay real base self.now →
+        ensures { (real : ℕ) (base : List Stored) → IsCallPath real base self.now →
             IsFollowed real base (Unknown at) (Unknown result) }
     {
         let far = after(&self.far, at);
@@ -275,7 +275,7 @@ impl Way {
 
     // Whether the way from an unknown is found to lead to another one.
     fn leads(&self, from: u32, to: u32) -> bool
-        ensures { IsTrue result → (real : ℕ) (base : List Stored) → IsWay real base self.now →
+        ensures { IsTrue result → (real : ℕ) (base : List Stored) → IsCallPath real base self.now →
             IsFollowed real base (Unknown from) (Unknown to) }
     {
         let mut at = from;
@@ -302,12 +302,12 @@ impl Following {
         constraints: &[Constraint<Option<Target>>],
         calls: &[Called],
     ) -> Result<Following, AllocError>
-        ensures { IfOk result (λ following. IsWay real constraints.now following.last
-            × IsWay real constraints.now following.first) }
+        ensures { IfOk result (λ following. IsCallPath real constraints.now following.last
+            × IsCallPath real constraints.now following.first) }
     {
         let Onward { greatest, least } = Onward::of(alloc, real, count, constraints)?;
-        let last = Way::of(alloc, count, &greatest, &least, calls)?;
-        let first = Way::of(alloc, count, &least, &greatest, calls)?;
+        let last = CallPath::of(alloc, count, &greatest, &least, calls)?;
+        let first = CallPath::of(alloc, count, &least, &greatest, calls)?;
         Ok(Following { last, first })
     }
 

@@ -14,8 +14,6 @@ use Rattle.common.specs.declared.fault.OrNoMemory.TheVariants as or
 use Rattle.machine.specs.Run.{names_of}
 use Rattle.machine.specs.declared.fault.NewRefusal.{NewRefusal}
 use Rattle.machine.specs.declared.fault.NewRefusal.TheVariants.{UnknownChannel}
-use Rattle.verifier.specs.Refusals.{IsCodeRefusalAfter}
-use Rattle.verifier.specs.declared.fault.CodeRefusal.{CodeRefusal}
 use Rattle.std.specs.Result.{IsErrAnd}
 use Rattle.std.proofs.lemmas.Result.{err_from_is_err_and}
 use Rattle.common.specs.declared.sent.Pair.{Pair}

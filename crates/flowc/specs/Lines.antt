@@ -38,7 +38,7 @@ at_two path first second rest = at_one path first (codes ":" ++ (decimal second 
 
 -- why the bytes of a module are refused: at a byte offset; or where its code is, at a procedure and a byte offset of it
 abbrev pub module_line : (path : List ℕ) → LoadRefusal → List ℕ
-module_line path (Bytes refusal) = at_one path refusal.offset (saying (format_message refusal.kind))
+module_line path (Bytes refusal) = at_one path refusal.at (saying (format_message refusal.kind))
 module_line path (Code refusal) = at_two path refusal.procedure refusal.offset (saying (code_message refusal.kind))
 
 -- bytes that are to be the text of a world and are no text

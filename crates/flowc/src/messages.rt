@@ -48,7 +48,7 @@ pub fn module_line(alloc: Global, path: &str, refusal: LoadRefusal) -> Result<St
     ensures { IfOk result (λ line. string_bytes line ≡ lines.module_line path.now refusal) }
 {
     match refusal {
-        LoadRefusal::Bytes(FormatRefusal { kind, offset }) => line_at(alloc, path, offset, &kind),
+        LoadRefusal::Bytes(FormatRefusal { kind, at }) => line_at(alloc, path, at, &kind),
         LoadRefusal::Code(
             CodeRefusal {
                 kind,

@@ -44,7 +44,7 @@ Asked old event answer new = ⊥
 -- what of a call a host refuses, and where: the bytes of a module from a byte on, the code of a procedure at a byte, a world that is
 -- not for the module's inputs, or the event itself
 abbrev pub SaysPlaceOfHost : HostRefusal → Reply → Type 0
-SaysPlaceOfHost (Load (Bytes refusal)) reply = (reply.text ≡ 2) × (reply.offset ≡ refusal.offset)
+SaysPlaceOfHost (Load (Bytes refusal)) reply = (reply.text ≡ 2) × (reply.offset ≡ refusal.at)
 SaysPlaceOfHost (Load (Code refusal)) reply =
     (reply.text ≡ 3) × (reply.procedure ≡ refusal.procedure) × (reply.offset ≡ refusal.offset)
 SaysPlaceOfHost (New refusal) reply = reply.text ≡ 4

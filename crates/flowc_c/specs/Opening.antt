@@ -127,7 +127,7 @@ open_message (Host refusal) = host_message refusal
 -- what is refused, and where: the bytes of the module from a byte on, the world at its first wrong line or at its first line where
 -- it is no text, the text of the hierarchy at a line and a column, or what the host refuses
 abbrev pub SaysPlaceOfOpen : OpenRefusal → Reply → Type 0
-SaysPlaceOfOpen (Bytes refusal) reply = (reply.text ≡ 2) × (reply.offset ≡ refusal.offset)
+SaysPlaceOfOpen (Bytes refusal) reply = (reply.text ≡ 2) × (reply.offset ≡ refusal.at)
 SaysPlaceOfOpen Encoding reply = (reply.text ≡ 4) × (reply.line ≡ 1)
 SaysPlaceOfOpen (World refusal) reply = (reply.text ≡ 4) × (reply.line ≡ refusal.line)
 SaysPlaceOfOpen (Hierarchy refusal) reply =

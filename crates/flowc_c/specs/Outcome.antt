@@ -44,7 +44,7 @@ pub record TellsFirstFault (hierarchy source : List ℕ) (outcome : Outcome) (ol
 
 -- the outcome says where bytes are wrong: they spell no module from this byte on, or the code of a procedure is refused at a byte
 abbrev pub SaysPlaceOf : LoadRefusal → Outcome → Type 0
-SaysPlaceOf (Bytes refusal) outcome = (outcome.text ≡ 2) × (outcome.offset ≡ refusal.offset)
+SaysPlaceOf (Bytes refusal) outcome = (outcome.text ≡ 2) × (outcome.offset ≡ refusal.at)
 SaysPlaceOf (Code refusal) outcome =
     (outcome.text ≡ 3) × (outcome.procedure ≡ refusal.procedure) × (outcome.offset ≡ refusal.offset)
 

@@ -193,7 +193,7 @@ fn reply_to(refusal: &OpenRefusal) -> Reply
     match refusal {
         OpenRefusal::Bytes(refusal) => {
             reply.text = BYTES;
-            reply.offset = refusal.offset;
+            reply.offset = refusal.at;
         }
         OpenRefusal::Encoding => {
             reply.text = WORLD;

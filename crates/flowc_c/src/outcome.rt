@@ -80,9 +80,9 @@ pub(crate) fn refuse_module(refusal: LoadRefusal, length: usize) -> Outcome
     let mut outcome = ended(REFUSED, length);
     outcome.number = refusal.number();
     match refusal {
-        LoadRefusal::Bytes(FormatRefusal { kind: _, offset }) => {
+        LoadRefusal::Bytes(FormatRefusal { kind: _, at }) => {
             outcome.text = 2;
-            outcome.offset = offset;
+            outcome.offset = at;
         }
         LoadRefusal::Code(
             CodeRefusal {

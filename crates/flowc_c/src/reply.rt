@@ -86,7 +86,7 @@ pub(crate) fn refuse(refusal: HostRefusal) -> Reply
         | HostRefusal::NotContained => EVENT,
         HostRefusal::New(_) => WORLD,
         HostRefusal::Load(LoadRefusal::Bytes(refusal)) => {
-            reply.offset = refusal.offset;
+            reply.offset = refusal.at;
             BYTES
         }
         HostRefusal::Load(LoadRefusal::Code(refusal)) => {

@@ -11,26 +11,27 @@ use Rattle.resolved.specs.Program.{Program, ProcedureEntry}
 use Rattle.resolved.specs.Exits.{same_exit, has_exit, statement_exits, block_exits}
 use Rattle.resolved.specs.ExitFaults.{fault_unless, block_faults, handlers_faults, procedure_faults, exit_faults}
 use Rattle.resolved.specs.declared.fault.ExitRefusalKind.TheVariants.{OutsideLoop, Unreachable, NeverRaised, NoValueReturned, Undeclared}
-use Rattle.resolved.specs.declared.fault.ExitRefusal.{ExitRefusal}
+use Rattle.common.specs.declared.refusal.RefusalAt.{RefusalAt}
+use Rattle.resolved.specs.declared.fault.ExitRefusalKind.{ExitRefusalKind}
 use Rattle.resolved.specs.Labelled.{program_demands}
 use Rattle.gathering.specs.Walk.{program_constraints}
 use Rattle.gathering.proofs.Reached.{Goes, Part, PartIn, PartBy}
 use Rattle.gathering.proofs.Programs.{PartsFrom, Gathers, gathered_by, all-gathers}
 use Rattle.resolved.proofs.Exits.{no_fault-test, faults-in_parts}
 
-none-left : (xs ys : List ExitRefusal) → (xs ++ ys) ≡ [] → xs ≡ []
+none-left : (xs ys : List (RefusalAt ExitRefusalKind)) → (xs ++ ys) ≡ [] → xs ≡ []
 none-left [] ys e = refl
 none-left (x ∷ xs) ys e = absurd (cc)
 
-none-right : (xs ys : List ExitRefusal) → (xs ++ ys) ≡ [] → ys ≡ []
+none-right : (xs ys : List (RefusalAt ExitRefusalKind)) → (xs ++ ys) ≡ [] → ys ≡ []
 none-right [] ys e = e
 none-right (x ∷ xs) ys e = absurd (cc)
 
 module _ (program : Program) where
   reached-first : (loop b : Bool) (s : Statement) (rest : Block) → block_faults program loop b (Then s rest) ≡ [] → b ≡ true
   reached-first loop b s rest none =
-      let a : List ExitRefusal = fault_unless (may_stand loop s) OutsideLoop (place_of s) in
-      let r : List ExitRefusal = fault_unless b Unreachable (place_of s) in
+      let a : List (RefusalAt ExitRefusalKind) = fault_unless (may_stand loop s) OutsideLoop (place_of s) in
+      let r : List (RefusalAt ExitRefusalKind) = fault_unless b Unreachable (place_of s) in
       let parts = sym (faults-in_parts program loop b rest s) ∙ none in
       no_fault-test b Unreachable (place_of s) (none-right a r (none-left (a ++ r) (inner_faults program loop s)
       (none-left ((a ++ r) ++ inner_faults program loop s) (block_faults program loop (has_exit (statement_exits program s) Normal) rest) parts)))
@@ -48,25 +49,25 @@ module _ (program : Program) where
     part-from (Send at channel e) loop none = tt
     part-from (Call at procedure arguments target) loop none = tt
     part-from (If at e then_block else_block) loop none =
-        let yes : List ExitRefusal = block_faults program loop true then_block in
-        let no : List ExitRefusal = block_faults program loop true else_block in
+        let yes : List (RefusalAt ExitRefusalKind) = block_faults program loop true then_block in
+        let no : List (RefusalAt ExitRefusalKind) = block_faults program loop true else_block in
         (part_in-from then_block loop true (none-left yes no none), part_in-from else_block loop true (none-right yes no none))
     part-from (While at l e body) loop none = part_in-from body true true none
     part-from (Leave at exit) loop none = tt
     part-from (ReturnWith at value) loop none = tt
     part-from (Try at block handlers) loop none =
-        let own : List ExitRefusal = block_faults program loop true block in
-        let more : List ExitRefusal = handlers_faults program loop (block_exits program block) handlers in
+        let own : List (RefusalAt ExitRefusalKind) = block_faults program loop true block in
+        let more : List (RefusalAt ExitRefusalKind) = handlers_faults program loop (block_exits program block) handlers in
         (part_in-from block loop true (none-left own more none), part_by-from handlers loop (block_exits program block) (none-right own more none))
     part-from (Nested at block) loop none = part_in-from block loop true none
 
     pub part_in-from : (block : Block) (loop b : Bool) → block_faults program loop b block ≡ [] → PartIn program block
     part_in-from Empty loop b none = tt
     part_in-from (Then s rest) loop b none =
-        let a : List ExitRefusal = fault_unless (may_stand loop s) OutsideLoop (place_of s) in
-        let r : List ExitRefusal = fault_unless b Unreachable (place_of s) in
-        let own : List ExitRefusal = inner_faults program loop s in
-        let more : List ExitRefusal = block_faults program loop (has_exit (statement_exits program s) Normal) rest in
+        let a : List (RefusalAt ExitRefusalKind) = fault_unless (may_stand loop s) OutsideLoop (place_of s) in
+        let r : List (RefusalAt ExitRefusalKind) = fault_unless b Unreachable (place_of s) in
+        let own : List (RefusalAt ExitRefusalKind) = inner_faults program loop s in
+        let more : List (RefusalAt ExitRefusalKind) = block_faults program loop (has_exit (statement_exits program s) Normal) rest in
         let parts = sym (faults-in_parts program loop b rest s) ∙ none in (
           part-from s loop (none-right (a ++ r) own (none-left ((a ++ r) ++ own) more parts)),
           goes-on loop s rest (none-right ((a ++ r) ++ own) more parts),
@@ -76,9 +77,9 @@ module _ (program : Program) where
     part_by-from : (handlers : Handlers) (loop : Bool) (ends : List Exit) → handlers_faults program loop ends handlers ≡ [] → PartBy program handlers
     part_by-from NoMore loop ends none = tt
     part_by-from (Catch at handled body rest) loop ends none =
-        let a : List ExitRefusal = fault_unless (has_exit ends (Throw handled)) NeverRaised at in
-        let own : List ExitRefusal = block_faults program loop true body in
-        let more : List ExitRefusal = handlers_faults program loop (filter (λ exit. not (same_exit (Throw handled) exit)) ends) rest in (
+        let a : List (RefusalAt ExitRefusalKind) = fault_unless (has_exit ends (Throw handled)) NeverRaised at in
+        let own : List (RefusalAt ExitRefusalKind) = block_faults program loop true body in
+        let more : List (RefusalAt ExitRefusalKind) = handlers_faults program loop (filter (λ exit. not (same_exit (Throw handled) exit)) ends) rest in (
           part_in-from body loop true (none-right a own (none-left (a ++ own) more none)),
           part_by-from rest loop (filter (λ exit. not (same_exit (Throw handled) exit)) ends) (none-right (a ++ own) more none),
         )
@@ -86,9 +87,9 @@ module _ (program : Program) where
 procedure-part : (program : Program) (procedure : ProcedureEntry) → procedure_faults program procedure ≡ [] → PartIn program procedure.body
 procedure-part program procedure none =
     let ends : List Exit = block_exits program procedure.body in
-    let own : List ExitRefusal = block_faults program false true procedure.body in
-    let valued : List ExitRefusal = fault_unless (not (is_some procedure.result && has_exit ends Normal)) NoValueReturned procedure.at in
-    let declared : List ExitRefusal = fault_unless (list_all (may_exit procedure) ends) Undeclared procedure.at in
+    let own : List (RefusalAt ExitRefusalKind) = block_faults program false true procedure.body in
+    let valued : List (RefusalAt ExitRefusalKind) = fault_unless (not (is_some procedure.result && has_exit ends Normal)) NoValueReturned procedure.at in
+    let declared : List (RefusalAt ExitRefusalKind) = fault_unless (list_all (may_exit procedure) ends) Undeclared procedure.at in
     part_in-from program procedure.body false true (none-left own valued (none-left (own ++ valued) declared none))
 
 each-part : (program : Program) (absent : ProcedureEntry) → PartIn program absent.body → (ps : List ProcedureEntry) →

@@ -12,19 +12,16 @@ use mir.Syntax.{w32}
 use Rattle.resolved.specs.declared.expression.Variable.{Variable}
 use Rattle.resolved.specs.declared.expression.Value.{Value}
 use Rattle.resolved.specs.declared.expression.Value.TheVariants.{Number, Truth}
-use Rattle.resolved.specs.declared.expression.Prefix.TheVariants.{Negate}
+use Rattle.common.specs.declared.operator.Prefix.TheVariants.{Negate}
 use Rattle.resolved.specs.declared.expression.Operator.{Operator}
-use Rattle.resolved.specs.declared.expression.Operator.TheVariants.{Compute, Divide, Bits, Compare, Match}
-use Rattle.resolved.specs.declared.expression.Computation.TheVariants.{Add, Subtract, Multiply}
-use Rattle.resolved.specs.declared.expression.Division.TheVariants.{Quotient, Remainder}
-use Rattle.resolved.specs.declared.expression.BitOperator.TheVariants.{BitAnd, BitOr, BitXor, ShiftLeft, ShiftRight, ShiftRightUnsigned}
-use Rattle.resolved.specs.declared.expression.Relation.TheVariants.{LessThan, AtMost, GreaterThan, AtLeast, Equal, Unequal}
-use Rattle.resolved.specs.declared.expression.Sameness.TheVariants.{Same, Different}
+use Rattle.resolved.specs.declared.expression.Operator.TheVariants.{Compute, Compare, Match}
+use Rattle.common.specs.declared.operator.Arithmetic.TheVariants.{Add, Subtract, Multiply, Divide, Remainder, Bits}
 use Rattle.resolved.specs.declared.statement.Exit.{Exit}
 use Rattle.resolved.specs.declared.statement.Exit.TheVariants.{Normal, Return, Break, Continue, Throw}
 use Rattle.resolved.specs.Tree.{Expression, Integer, Logical, Read, Element, Unary, Binary, Short, Statement, Assign, Clear, Store, Receive, Send, Call, If, While, Leave, ReturnWith, Try, Nested, Block, Empty, Then, Handlers, NoMore, Catch}
 use Rattle.resolved.specs.Program.{Program, procedure_at}
-use Rattle.resolved.specs.Value.{Evaluated, Yields, Raises, then_with, truth_in, number_in, wrapped, literal_number, unless_zero, operator_value, decides, in_range, checked_index}
+use Rattle.common.specs.Operators.{wrapped}
+use Rattle.resolved.specs.Value.{Evaluated, Yields, Raises, then_with, truth_in, number_in, literal_number, or_arith, operator_value, decides, in_range, checked_index}
 use Rattle.resolved.specs.SourceState.{SourceState, value_of, values_of, cells, cell_at, assigned, stored, cleared}
 use Rattle.resolved.specs.Meaning.{OutOfFuel, Outcome, Ended, Stopped, normally, after, evaluated, looped, fuel, caught, leaving, returned_to, received, sending, Calls, statement_meaning, block_meaning, handlers_meaning, frame_of, calls_with}
 use Rattle.resolved.specs.Exits.{same_exit, has_exit, index_can_raise, divisor_can_raise, index_raises, operator_raises, raises, thrown_exits, declared_by, leaves_loop, handles, passes, then_exits, statement_exits, block_exits, handlers_exits}
@@ -114,11 +111,11 @@ raises-checked_index s index length v e = go (index_can_raise index length) refl
     go false f false g = let i : true ≡ false = sym (index-in_range s index length v f e) ∙ g in absurd (cc)
 
 raises-division : (s : SourceState) (e : Expression) (w : Value) (result : ℤ) → value_of s e ≡ Yields w →
-    RaisesAmong (if divisor_can_raise e then ARITH ∷ [] else []) (unless_zero (number_in w) result)
+    RaisesAmong (if divisor_can_raise e then ARITH ∷ [] else []) (or_arith (if is_zero (number_in w) then None else Some result))
 raises-division s e w result f = go (divisor_can_raise e) refl (is_zero (number_in w)) refl
   where
     go : (b : Bool) → divisor_can_raise e ≡ b → (c : Bool) → is_zero (number_in w) ≡ c →
-        RaisesAmong (if divisor_can_raise e then ARITH ∷ [] else []) (unless_zero (number_in w) result)
+        RaisesAmong (if divisor_can_raise e then ARITH ∷ [] else []) (or_arith (if is_zero (number_in w) then None else Some result))
     go b g false h = rw h (raises-none (if divisor_can_raise e then ARITH ∷ [] else []) (Number result))
     go true g true h = rw (g, h) (raises-this (ARITH ∷ []) ARITH refl)
     go false g true h = let i : true ≡ false = sym h ∙ divisor-not_zero s e w g f in absurd (cc)
@@ -128,22 +125,11 @@ raises-operator : (s : SourceState) (operator : Operator) (e : Expression) (v w 
 raises-operator s (Compute Add) e v w f = raises-none [] _
 raises-operator s (Compute Subtract) e v w f = raises-none [] _
 raises-operator s (Compute Multiply) e v w f = raises-none [] _
-raises-operator s (Divide Quotient) e v w f = raises-division s e w _ f
-raises-operator s (Divide Remainder) e v w f = raises-division s e w _ f
-raises-operator s (Bits BitAnd) e v w f = raises-none [] _
-raises-operator s (Bits BitOr) e v w f = raises-none [] _
-raises-operator s (Bits BitXor) e v w f = raises-none [] _
-raises-operator s (Bits ShiftLeft) e v w f = raises-none [] _
-raises-operator s (Bits ShiftRight) e v w f = raises-none [] _
-raises-operator s (Bits ShiftRightUnsigned) e v w f = raises-none [] _
-raises-operator s (Compare LessThan) e v w f = raises-none [] _
-raises-operator s (Compare AtMost) e v w f = raises-none [] _
-raises-operator s (Compare GreaterThan) e v w f = raises-none [] _
-raises-operator s (Compare AtLeast) e v w f = raises-none [] _
-raises-operator s (Compare Equal) e v w f = raises-none [] _
-raises-operator s (Compare Unequal) e v w f = raises-none [] _
-raises-operator s (Match Same) e v w f = raises-none [] _
-raises-operator s (Match Different) e v w f = raises-none [] _
+raises-operator s (Compute Divide) e v w f = raises-division s e w _ f
+raises-operator s (Compute Remainder) e v w f = raises-division s e w _ f
+raises-operator s (Compute (Bits operator)) e v w f = raises-none [] _
+raises-operator s (Compare comparison) e v w f = raises-none [] _
+raises-operator s (Match sameness) e v w f = raises-none [] _
 
 raises-if : {A : Type 0} (xs : List ℕ) (b : Bool) (o p : Evaluated A) → RaisesAmong xs o → RaisesAmong xs p →
     RaisesAmong xs (if b then o else p)

@@ -1,20 +1,16 @@
 -- Expressions in two states that are the same for an observer: who reads the raise label finds the same exception in both or none
 -- in both, and who reads the value label too finds the same value.
 use Rattle.std.proofs.Common.{◌≡◌, refl, sym, ap, ◌∙◌, ℕ, Bool, true, false, ◌&&◌, List, [], ◌∷◌, ◌++◌, ℤ}
-use Rattle.std.specs.Prelude.{if◌then◌else◌, flat_map, nat_abs}
+use Rattle.std.specs.Prelude.{Some, None, if◌then◌else◌, flat_map, nat_abs}
 use Rattle.principals.specs.ActsFor.{PrincipalHierarchy}
 use Rattle.resolved.specs.declared.expression.Value.{Value}
 use Rattle.resolved.specs.declared.expression.Value.TheVariants.{Number, Truth}
 use Rattle.resolved.specs.declared.expression.Operator.{Operator}
-use Rattle.resolved.specs.declared.expression.Operator.TheVariants.{Compute, Divide, Bits, Compare, Match}
-use Rattle.resolved.specs.declared.expression.Computation.TheVariants.{Add, Subtract, Multiply}
-use Rattle.resolved.specs.declared.expression.Division.TheVariants.{Quotient, Remainder}
-use Rattle.resolved.specs.declared.expression.BitOperator.TheVariants.{BitAnd, BitOr, BitXor, ShiftLeft, ShiftRight, ShiftRightUnsigned}
-use Rattle.resolved.specs.declared.expression.Relation.TheVariants.{LessThan, AtMost, GreaterThan, AtLeast, Equal, Unequal}
-use Rattle.resolved.specs.declared.expression.Sameness.TheVariants.{Same, Different}
-use Rattle.resolved.specs.declared.expression.Connective.{Connective}
+use Rattle.resolved.specs.declared.expression.Operator.TheVariants.{Compute, Compare, Match}
+use Rattle.common.specs.declared.operator.Arithmetic.TheVariants.{Add, Subtract, Multiply, Divide, Remainder, Bits}
+use Rattle.common.specs.declared.operator.Connective.{Connective}
 use Rattle.resolved.specs.Tree.{Expression, Integer, Logical, Read, Element, Unary, Binary, Short}
-use Rattle.resolved.specs.Value.{Evaluated, Yields, Raises, then_with, number_in, literal_number, unless_zero, prefix_value, operator_value, decides, in_range, checked_index}
+use Rattle.resolved.specs.Value.{Evaluated, Yields, Raises, then_with, number_in, literal_number, or_arith, prefix_value, operator_value, decides, in_range, checked_index}
 use Rattle.resolved.specs.SourceState.{SourceState, cells, cell_at, value_of, values_of}
 use Rattle.resolved.specs.Exits.{index_can_raise, divisor_can_raise, is_division, raises}
 use Rattle.resolved.specs.Labelled.{Scope, variable_label, value_label, raise_label, label_if, any_of, Labelling, Join}
@@ -67,10 +63,10 @@ index-alike s t index len b v w covered f g same = go (index_can_raise index len
         rw (left, right) (both_give (nat_abs (number_in v)) (nat_abs (number_in w)) (λ i. ap (λ x. nat_abs (number_in x)) (same i)))
 
 division-alike : (b : Bool) (d e : ℤ) (m n : ℤ) → is_zero d ≡ is_zero e → SameIf b m n →
-    Alike (SameIf b) (unless_zero d m) (unless_zero e n)
+    Alike (SameIf b) (or_arith (if is_zero d then None else Some m)) (or_arith (if is_zero e then None else Some n))
 division-alike b d e m n no_zero same = go (is_zero e) refl
   where
-    go : (c : Bool) → is_zero e ≡ c → Alike (SameIf b) (unless_zero d m) (unless_zero e n)
+    go : (c : Bool) → is_zero e ≡ c → Alike (SameIf b) (or_arith (if is_zero d then None else Some m)) (or_arith (if is_zero e then None else Some n))
     go true f = rw (no_zero, f) (both_raise ARITH)
     go false f = rw (no_zero, f) (both_give (Number m) (Number n) (λ i. ap (λ x. Number x) (same i)))
 
@@ -80,24 +76,13 @@ operator-alike : (b : Bool) (operator : Operator) (v w v' w' : Value) →
 operator-alike b (Compute Add) v w v' w' no_zero left right = both_give _ _ (λ i. rw (left i, right i) refl)
 operator-alike b (Compute Subtract) v w v' w' no_zero left right = both_give _ _ (λ i. rw (left i, right i) refl)
 operator-alike b (Compute Multiply) v w v' w' no_zero left right = both_give _ _ (λ i. rw (left i, right i) refl)
-operator-alike b (Divide Quotient) v w v' w' no_zero left right = division-alike b (number_in w) (number_in w') _ _ (no_zero refl)
+operator-alike b (Compute Divide) v w v' w' no_zero left right = division-alike b (number_in w) (number_in w') _ _ (no_zero refl)
     (λ i. rw (left i, right i) refl)
-operator-alike b (Divide Remainder) v w v' w' no_zero left right = division-alike b (number_in w) (number_in w') _ _ (no_zero refl)
+operator-alike b (Compute Remainder) v w v' w' no_zero left right = division-alike b (number_in w) (number_in w') _ _ (no_zero refl)
     (λ i. rw (left i, right i) refl)
-operator-alike b (Bits BitAnd) v w v' w' no_zero left right = both_give _ _ (λ i. rw (left i, right i) refl)
-operator-alike b (Bits BitOr) v w v' w' no_zero left right = both_give _ _ (λ i. rw (left i, right i) refl)
-operator-alike b (Bits BitXor) v w v' w' no_zero left right = both_give _ _ (λ i. rw (left i, right i) refl)
-operator-alike b (Bits ShiftLeft) v w v' w' no_zero left right = both_give _ _ (λ i. rw (left i, right i) refl)
-operator-alike b (Bits ShiftRight) v w v' w' no_zero left right = both_give _ _ (λ i. rw (left i, right i) refl)
-operator-alike b (Bits ShiftRightUnsigned) v w v' w' no_zero left right = both_give _ _ (λ i. rw (left i, right i) refl)
-operator-alike b (Compare LessThan) v w v' w' no_zero left right = both_give _ _ (λ i. rw (left i, right i) refl)
-operator-alike b (Compare AtMost) v w v' w' no_zero left right = both_give _ _ (λ i. rw (left i, right i) refl)
-operator-alike b (Compare GreaterThan) v w v' w' no_zero left right = both_give _ _ (λ i. rw (left i, right i) refl)
-operator-alike b (Compare AtLeast) v w v' w' no_zero left right = both_give _ _ (λ i. rw (left i, right i) refl)
-operator-alike b (Compare Equal) v w v' w' no_zero left right = both_give _ _ (λ i. rw (left i, right i) refl)
-operator-alike b (Compare Unequal) v w v' w' no_zero left right = both_give _ _ (λ i. rw (left i, right i) refl)
-operator-alike b (Match Same) v w v' w' no_zero left right = both_give _ _ (λ i. rw (left i, right i) refl)
-operator-alike b (Match Different) v w v' w' no_zero left right = both_give _ _ (λ i. rw (left i, right i) refl)
+operator-alike b (Compute (Bits operator)) v w v' w' no_zero left right = both_give _ _ (λ i. rw (left i, right i) refl)
+operator-alike b (Compare comparison) v w v' w' no_zero left right = both_give _ _ (λ i. rw (left i, right i) refl)
+operator-alike b (Match sameness) v w v' w' no_zero left right = both_give _ _ (λ i. rw (left i, right i) refl)
 
 -- whether a divisor is 0 is the same in both, if it can be
 divisor-alike : (s t : SourceState) (e : Expression) (b : Bool) (w w' : Value) → (divisor_can_raise e ≡ true → b ≡ true) →

@@ -9,7 +9,8 @@ use Rattle.labels.specs.Sent.{pairs_for}
 use Rattle.common.specs.declared.base_type.BaseType.TheVariants.{Int}
 use Rattle.resolved.specs.declared.expression.Variable.TheVariants.{Local}
 use Rattle.resolved.specs.declared.expression.Operator.TheVariants.{Compare}
-use Rattle.resolved.specs.declared.expression.Relation.TheVariants.{GreaterThan}
+use Rattle.common.specs.declared.operator.Comparison.TheVariants.{Ordered}
+use Rattle.common.specs.declared.operator.Order.TheVariants.{GreaterThan}
 use Rattle.common.specs.declared.direction.Direction.TheVariants.{Input, Output}
 use Rattle.resolved.specs.Tree.{Integer, Read, Binary, Assign, Receive, Send, While, Try, Block, Empty, Then, NoMore, Catch}
 use Rattle.resolved.specs.Program.{Program, ThrownEntry}
@@ -62,7 +63,7 @@ abbrev pub waiting : Program
 waiting = program_with [] [] []
     (Then (Assign 0 (Local 0) (Integer 0))
     (Then (Try 0 (Then (Receive 0 0 (Some (Local 0))) Empty) (Catch 0 END Empty NoMore))
-    (Then (While 0 0 (Binary (Compare GreaterThan) (Read (Local 0)) (Integer 0)) Empty)
+    (Then (While 0 0 (Binary (Compare (Ordered GreaterThan)) (Read (Local 0)) (Integer 0)) Empty)
     (Then (Send 0 1 (Integer 1)) Empty))))
 
 -- the world in which one number comes on s

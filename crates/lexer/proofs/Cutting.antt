@@ -99,27 +99,27 @@ halts_at text front rest lexeme no_word no_gap next = record {
 
 pub halts_stuck : (text : List ℕ) (kind : LexRefusalKind) → IsRefusedFor text kind → Halts text
 halts_stuck text NoToken stuck = record {
-  no_token = λ kind front left next. stuck.none (Word kind) front left next.is next.text_is;
-  no_gap = λ front left next. stuck.none Gap front left next.is next.text_is;
+  no_token = λ kind front left next. stuck.1 (Word kind) front left next.is next.text_is;
+  no_gap = λ front left next. stuck.1 Gap front left next.is next.text_is;
 }
 halts_stuck text LiteralTooLarge (front, rest, next) = halts_at text front rest LargeLiteral (λ kind h. cc) (λ h. cc) next
 halts_stuck text UnclosedComment (front, rest, next) = halts_at text front rest OpenComment (λ kind h. cc) (λ h. cc) next
 
 some_stuck : (text : List ℕ) (kind : LexRefusalKind) → IsRefusedFor text kind → text ≡ [] → ⊥
-some_stuck text NoToken stuck e = stuck.goes_on e
+some_stuck text NoToken stuck e = stuck.0 e
 some_stuck text LiteralTooLarge (front, rest, next) e = front_nil LargeLiteral text front rest next e
 some_stuck text UnclosedComment (front, rest, next) e = front_nil OpenComment text front rest next e
 
 one_kind : (text : List ℕ) (kind other : LexRefusalKind) → IsRefusedFor text kind → IsRefusedFor text other → kind ≡ other
 one_kind text NoToken NoToken h k = refl
-one_kind text NoToken LiteralTooLarge h (front, rest, next) = absurd (h.none LargeLiteral front rest next.is next.text_is)
-one_kind text NoToken UnclosedComment h (front, rest, next) = absurd (h.none OpenComment front rest next.is next.text_is)
-one_kind text LiteralTooLarge NoToken (front, rest, next) k = absurd (k.none LargeLiteral front rest next.is next.text_is)
+one_kind text NoToken LiteralTooLarge h (front, rest, next) = absurd (h.1 LargeLiteral front rest next.is next.text_is)
+one_kind text NoToken UnclosedComment h (front, rest, next) = absurd (h.1 OpenComment front rest next.is next.text_is)
+one_kind text LiteralTooLarge NoToken (front, rest, next) k = absurd (k.1 LargeLiteral front rest next.is next.text_is)
 one_kind text LiteralTooLarge LiteralTooLarge h k = refl
 one_kind text LiteralTooLarge UnclosedComment (front, rest, next) (back, left, other) =
     let e = (one_next text front rest back left LargeLiteral OpenComment next other).0 in
     absurd cc
-one_kind text UnclosedComment NoToken (front, rest, next) k = absurd (k.none OpenComment front rest next.is next.text_is)
+one_kind text UnclosedComment NoToken (front, rest, next) k = absurd (k.1 OpenComment front rest next.is next.text_is)
 one_kind text UnclosedComment LiteralTooLarge (front, rest, next) (back, left, other) =
     let e = (one_next text front rest back left OpenComment LargeLiteral next other).0 in
     absurd cc

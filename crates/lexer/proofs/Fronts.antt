@@ -5,7 +5,8 @@ use Rattle.std.specs.Char.{is_ascii_digit, is_ascii_lowercase}
 use Rattle.std.specs.List.{list_all}
 use Rattle.std.specs.Prelude.{nat_le}
 use Rattle.std.specs.Str.Parse.{digits_value}
-use Rattle.lexer.specs.Words.{is_white_space, is_name, may_continue, keyword_of, keywords}
+use Rattle.lexer.specs.Words.{is_white_space, is_name, keyword_of, keywords}
+use Rattle.unicode_ident.specs.Ident.{is_xid_continue}
 use Rattle.lexer.specs.Lexeme.{Lexeme, Word, Gap, LargeLiteral, OpenComment, IsLexeme, Blank, LineComment, BlockComment, Unended, Keyword, Identifier, Literal, TooLarge, Sign, IsInLine, HasNoCommentEnd, IsNumeral, sign_of, signs}
 use Rattle.lexer.proofs.Closed.{IsClosed, closed_by}
 use Rattle.lexer.specs.declared.token.Kind.{Kind}
@@ -33,7 +34,7 @@ pub data AfterSolidus : List ℕ → Lexeme → Type 0 where
 abbrev pub Front : Class → ℕ → List ℕ → Lexeme → Type 0
 Front White c cs lexeme = (lexeme ≡ Gap) × (cs ≡ [])
 Front Digit c cs lexeme = (lexeme ≡ literal_of (c ∷ cs)) × (list_all is_ascii_digit cs ≡ true)
-Front Letter c cs lexeme = (lexeme ≡ Word (word_kind (c ∷ cs))) × (list_all may_continue cs ≡ true)
+Front Letter c cs lexeme = (lexeme ≡ Word (word_kind (c ∷ cs))) × (list_all is_xid_continue cs ≡ true)
 Front Solidus c cs lexeme = AfterSolidus cs lexeme
 Front Other c cs lexeme = (kind : Kind) × ((sign_of (c ∷ cs) ≡ Some kind) × ((lexeme ≡ Word kind) × (length cs ≤ 2)))
 
@@ -47,11 +48,11 @@ lowercase_word : List ℕ → Bool
 lowercase_word [] = false
 lowercase_word (c ∷ cs) = list_all is_ascii_lowercase (c ∷ cs)
 
-lowercase_all : (cs : List ℕ) → list_all is_ascii_lowercase cs ≡ true → list_all may_continue cs ≡ true
+lowercase_all : (cs : List ℕ) → list_all is_ascii_lowercase cs ≡ true → list_all is_xid_continue cs ≡ true
 lowercase_all [] all = refl
 lowercase_all (c ∷ cs) all =
     let (first, others) = and_parts _ _ all in
-    ap (λ b. b && list_all may_continue cs) (lowercase_continues c first) ∙ lowercase_all cs others
+    ap (λ b. b && list_all is_xid_continue cs) (lowercase_continues c first) ∙ lowercase_all cs others
 
 keyword_shape : (c : ℕ) (cs : List ℕ) (kind : Kind) → keyword_of (c ∷ cs) ≡ Some kind
     → Front (class_of c) c cs (Word kind)

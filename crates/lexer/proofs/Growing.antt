@@ -9,7 +9,8 @@ use Rattle.lexer.specs.Scan.{Reads, after_run, lexeme_of, IsStuck}
 use Rattle.lexer.specs.Words.{is_white_space}
 use Rattle.lexer.specs.declared.token.Kind.{Kind}
 use Rattle.lexer.specs.declared.token.Kind.TheVariants.{End}
-use Rattle.lexer.specs.declared.fault.LexRefusal.{LexRefusal}
+use Rattle.common.specs.declared.refusal.RefusalAt.{RefusalAt}
+use Rattle.lexer.specs.declared.fault.LexRefusalKind.{LexRefusalKind}
 use Rattle.lexer.proofs.Cutting.{cuts_on}
 use Rattle.lexer.proofs.Listed.{size-append, front_some}
 use Rattle.lexer.proofs.Nexts.{next_white}
@@ -152,7 +153,7 @@ token text rest left bytes tokens kind ok tail_ok bytes_ok so_far (front, next) 
     }
 
 -- a text that can't be cut further
-pub refused : (text rest : List ℕ) (tokens : List Terminal) (fault : LexRefusal) → IsCutSoFar text rest tokens
+pub refused : (text rest : List ℕ) (tokens : List Terminal) (fault : RefusalAt LexRefusalKind) → IsCutSoFar text rest tokens
     → IsStuck (length text - length rest) (chars rest) fault → IsTextRefused text fault
 refused text rest tokens fault so_far stuck = record {
   words = tokens;

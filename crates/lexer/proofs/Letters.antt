@@ -4,7 +4,8 @@ use Rattle.std.proofs.lemmas.Bool.{cases_lt, and_parts, or_parts, ltb-true, agre
 use Rattle.std.proofs.lemmas.Bool.Decides.{nat_tests}
 use Rattle.std.specs.Char.{is_ascii, is_ascii_digit, is_ascii_alphabetic, is_ascii_alphanumeric, is_ascii_lowercase}
 use Rattle.unicode_ident.proofs.IdentLemmas.{is_xid_start-ascii, is_xid_continue-ascii}
-use Rattle.lexer.specs.Words.{is_white_space, may_begin, may_continue}
+use Rattle.lexer.specs.Words.{is_white_space, may_begin}
+use Rattle.unicode_ident.specs.Ident.{is_xid_continue}
 
 -- a character by what a lexeme that begins with it may be
 pub data Class : Type 0 where
@@ -82,7 +83,7 @@ lowercase_begins c h =
     let letter : begins_ascii c ≡ true = grind (arith, nat_tests) in
     may_begin-ascii c small ∙ letter
 
-pub lowercase_continues : (c : ℕ) → is_ascii_lowercase c ≡ true → may_continue c ≡ true
+pub lowercase_continues : (c : ℕ) → is_ascii_lowercase c ≡ true → is_xid_continue c ≡ true
 lowercase_continues c h =
     let small : c < 128 = lowercase_small c h in
     let letter : (is_ascii_alphanumeric c || (c == 95)) ≡ true = grind (arith, nat_tests) in

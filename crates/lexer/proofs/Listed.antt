@@ -13,7 +13,8 @@ use Rattle.lexer.specs.Words.{is_name, keyword_of, keywords}
 use Rattle.lexer.specs.Lexeme.{Lexeme, Word, Gap, IsLexeme, Keyword, Identifier, Literal, Sign, IsNumeral, sign_of, signs}
 use Rattle.lexer.specs.Cut.{Cuts, Nothing, Token, Between, IsNextLexeme, IsCut, IsTextRefused, terminal_at, size}
 use Rattle.lexer.specs.Listing.{IsInOrder, IsSliceOf, IsSpelled, SpellsToken, IsAtCharacter, IsRefusedAtCharacter}
-use Rattle.lexer.specs.declared.fault.LexRefusal.{LexRefusal}
+use Rattle.common.specs.declared.refusal.RefusalAt.{RefusalAt}
+use Rattle.lexer.specs.declared.fault.LexRefusalKind.{LexRefusalKind}
 use Rattle.lexer.specs.declared.token.Kind.{Kind}
 use Rattle.lexer.specs.declared.token.Kind.TheVariants.{Name, Integer, End}
 use Rattle.lexer.proofs.Fronts.{nonempty}
@@ -237,7 +238,7 @@ at_start text ok = record {
 }
 
 -- a refusal stands where a character begins
-pub refused_at : (text : List ℕ) (fault : LexRefusal) → IsUtf8 text → IsTextRefused text fault → IsRefusedAtCharacter text fault
+pub refused_at : (text : List ℕ) (fault : RefusalAt LexRefusalKind) → IsUtf8 text → IsTextRefused text fault → IsRefusedAtCharacter text fault
 refused_at text fault ok h =
     boundary text fault.at h.rest (cut_parts text 0 (chars text) h.words fault.at h.rest h.cuts (at_start text ok))
 

@@ -6,10 +6,12 @@ use Rattle.std.specs.List.{list_all}
 use Rattle.std.specs.Prelude.{nat_le}
 use Rattle.std.specs.Str.Parse.{digits_value}
 use Rattle.std.proofs.lemmas.List.Prefix.{front_fits}
-use Rattle.lexer.specs.Words.{is_white_space, is_identifier, may_begin, may_continue, keyword_of}
+use Rattle.lexer.specs.Words.{is_white_space, is_identifier, may_begin, keyword_of}
+use Rattle.unicode_ident.specs.Ident.{is_xid_continue}
 use Rattle.lexer.specs.Lexeme.{Lexeme, Word, Gap, OpenComment, IsLexeme, Blank, LineComment, BlockComment, Unended, Keyword, Identifier, Literal, TooLarge, Sign, IsInLine, HasNoCommentEnd, IsNumeral, sign_of}
 use Rattle.lexer.proofs.Closed.{IsClosed, open_before}
-use Rattle.lexer.specs.Cut.{IsNextLexeme, HasNoLexeme}
+use Rattle.lexer.specs.Cut.{IsNextLexeme, IsRefusedFor}
+use Rattle.lexer.specs.declared.fault.LexRefusalKind.TheVariants.{NoToken}
 use Rattle.lexer.specs.Scan.{IsNoDouble, IsNoTriple}
 use Rattle.lexer.specs.declared.token.Kind.{Kind}
 use Rattle.lexer.specs.declared.token.Kind.TheVariants.{Slash, Name}
@@ -74,13 +76,13 @@ word_is cs identifier = word_at (keyword_of cs) refl
     word_at None e = Identifier cs (and_from _ _ identifier (ap (λ o. not (is_some o)) e))
     word_at (Some kind) e = Keyword cs kind e
 
-pub next_word : (c : ℕ) (cs rest : List ℕ) → may_begin c ≡ true → list_all may_continue cs ≡ true
-    → Stops may_continue rest → IsNextLexeme (c ∷ (cs ++ rest)) (Word (word_kind (c ∷ cs))) (c ∷ cs) rest
+pub next_word : (c : ℕ) (cs rest : List ℕ) → may_begin c ≡ true → list_all is_xid_continue cs ≡ true
+    → Stops is_xid_continue rest → IsNextLexeme (c ∷ (cs ++ rest)) (Word (word_kind (c ∷ cs))) (c ∷ cs) rest
 next_word c cs rest begins continues stops = record {
   text_is = refl;
   is = word_is (c ∷ cs) (and_from _ _ begins continues);
   longest = bounded Letter c (cs ++ rest) (length cs) (class-Letter c begins)
-      (λ lexeme tail more e front. run_longest may_continue cs rest tail more stops front.1 e);
+      (λ lexeme tail more e front. run_longest is_xid_continue cs rest tail more stops front.1 e);
 }
 
 -- `/` and `*` are two characters
@@ -216,15 +218,15 @@ next_single c cs kind class found short alone = record {
 }
 
 pub none_next : (c : ℕ) (cs : List ℕ) → class_of c ≡ Other → sign_of (c ∷ []) ≡ None → IsNoTriple c cs
-    → IsNoDouble c cs → HasNoLexeme (c ∷ cs)
-none_next c cs class absent short alone = record {
-  goes_on = λ e. cc;
-  none = λ lexeme front rest h e.
+    → IsNoDouble c cs → IsRefusedFor (c ∷ cs) NoToken
+none_next c cs class absent short alone = (
+  λ e. cc,
+  λ lexeme front rest h e.
       let (tail, (here, (others, shape))) = opened Other c cs class lexeme front rest h e in
       let empty = single c cs short alone lexeme tail rest others shape in
       let some : sign_of (c ∷ []) ≡ Some shape.0 = ap (λ t. sign_of (c ∷ t)) (sym empty) ∙ shape.1.0 in
-      cc;
-}
+      cc,
+)
 
 -- one text after a `/` is one lexeme
 one_after : (a b : List ℕ) (l m : Lexeme) → AfterSolidus a l → AfterSolidus b m → a ≡ b → l ≡ m

@@ -15,7 +15,8 @@ use Rattle.std.proofs.lemmas.Str.{encodes-IsAscii, encodes-chars}
 use Rattle.std.proofs.lemmas.Str.Ascii.{IsAscii-nil, IsAscii-cons}
 use Rattle.std.proofs.lemmas.Str.Parse.{IsDigitsTest, numerals_by_value, parse_digits}
 use Rattle.std.proofs.lemmas.List.{nil_from_length}
-use Rattle.lexer.specs.Words.{is_white_space, may_begin, may_continue}
+use Rattle.lexer.specs.Words.{is_white_space, may_begin}
+use Rattle.unicode_ident.specs.Ident.{is_xid_continue}
 use Rattle.lexer.specs.Lexeme.{Lexeme, Word, Gap, LargeLiteral, OpenComment, HasNoCommentEnd}
 use Rattle.lexer.proofs.Closed.{IsClosed}
 use Rattle.lexer.specs.Cut.{IsNextLexeme}
@@ -86,10 +87,10 @@ pub run_tail : (p : ℕ → Bool) (cs : List ℕ) (c : ℕ) (after rest : List �
 run_tail p cs c after rest e k = let h = run_front p cs c after rest e k in (c ∷ h.others, h.text_is)
 
 -- a word
-pub word_read : (cs : List ℕ) (c : ℕ) (after rest front : List ℕ) → cs ≡ c ∷ after → rest ≡ after_run may_continue after
+pub word_read : (cs : List ℕ) (c : ℕ) (after rest front : List ℕ) → cs ≡ c ∷ after → rest ≡ after_run is_xid_continue after
     → may_begin c ≡ true → cs ≡ front ++ rest → IsNextLexeme cs (Word (word_kind front)) front rest
 word_read cs c after rest front e k begins parts =
-    let h = run_front may_continue cs c after rest e k in
+    let h = run_front is_xid_continue cs c after rest e k in
     let same : c ∷ h.others ≡ front = same_before (c ∷ h.others) front rest (sym h.text_is ∙ parts) in
     moved _ _ _ _ _ _ _ _ (sym h.text_is) (ap (λ f. Word (word_kind f)) same) same refl
     (next_word c h.others rest begins h.passes h.stops)

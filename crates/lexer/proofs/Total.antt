@@ -5,14 +5,15 @@ use Rattle.std.proofs.lemmas.Str.{encodes-chars}
 use Rattle.std.specs.Char.{is_ascii_digit}
 use Rattle.std.specs.Str.{chars, IsUtf8}
 use Rattle.lexer.specs.Terminal.{Terminal}
-use Rattle.lexer.specs.Words.{is_white_space, may_begin, may_continue}
+use Rattle.lexer.specs.Words.{is_white_space, may_begin}
+use Rattle.unicode_ident.specs.Ident.{is_xid_continue}
 use Rattle.lexer.specs.Lexeme.{Lexeme, Word, Gap, LargeLiteral, OpenComment, sign_of}
-use Rattle.lexer.specs.Cut.{Cuts, Nothing, Token, Between, IsNextLexeme, IsCut, IsRefusedFor, HasNoLexeme, terminal_at, size}
+use Rattle.lexer.specs.Cut.{Cuts, Nothing, Token, Between, IsNextLexeme, IsCut, IsRefusedFor, terminal_at, size}
 use Rattle.lexer.specs.Laws.{IsCutOrRefused}
 use Rattle.lexer.specs.Scan.{after_close, after_run, IsNoDouble, IsNoTriple, IsStuck}
 use Rattle.lexer.specs.declared.token.Kind.{Kind}
 use Rattle.lexer.specs.declared.token.Kind.TheVariants.{End}
-use Rattle.lexer.specs.declared.fault.LexRefusal.{LexRefusal}
+use Rattle.common.specs.declared.refusal.RefusalAt.{RefusalAt}
 use Rattle.lexer.specs.declared.fault.LexRefusalKind.{LexRefusalKind}
 use Rattle.lexer.specs.declared.fault.LexRefusalKind.TheVariants.{NoToken, LiteralTooLarge, UnclosedComment}
 use Rattle.lexer.proofs.Letters.{class_of, Other}
@@ -24,7 +25,7 @@ use Rattle.lexer.proofs.Listed.{cut_size}
 -- a text has a next lexeme, or none
 data Found (text : List ℕ) : Type 0 where
   Next : (lexeme : Lexeme) (front rest : List ℕ) → IsNextLexeme text lexeme front rest → Found text
-  Absent : HasNoLexeme text → Found text
+  Absent : IsRefusedFor text NoToken → Found text
 
 find_single : (c : ℕ) (cs : List ℕ) → class_of c ≡ Other → IsNoTriple c cs → IsNoDouble c cs → (single : Option Kind)
     → sign_of (c ∷ []) ≡ single → Found (c ∷ cs)
@@ -75,10 +76,10 @@ find_literal c cs digit =
 
 find_word : (c : ℕ) (cs : List ℕ) → may_begin c ≡ true → Found (c ∷ cs)
 find_word c cs begins =
-    let (front, run) = run_parts may_continue cs in
-    Next _ (c ∷ front) (after_run may_continue cs)
+    let (front, run) = run_parts is_xid_continue cs in
+    Next _ (c ∷ front) (after_run is_xid_continue cs)
     (moved _ _ _ _ _ _ _ _ (ap (λ t. c ∷ t) (sym run.text_is)) refl refl refl
-    (next_word c front (after_run may_continue cs) begins run.passes run.stops))
+    (next_word c front (after_run is_xid_continue cs) begins run.passes run.stops))
 
 found : (c : ℕ) (cs : List ℕ) → Found (c ∷ cs)
 found c cs =
@@ -102,7 +103,7 @@ record Cutting (start : ℕ) (text : List ℕ) : Type 0 where
   end : ℕ
   rest : List ℕ
   cuts : Cuts start text words end rest
-  stops : (rest ≡ []) ⊎ ((fault : LexRefusal) × IsStuck end rest fault)
+  stops : (rest ≡ []) ⊎ ((fault : RefusalAt LexRefusalKind) × IsStuck end rest fault)
 
 stuck : (start : ℕ) (text : List ℕ) (kind : LexRefusalKind) → IsRefusedFor text kind → Cutting start text
 stuck start text kind h = record {

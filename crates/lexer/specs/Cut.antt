@@ -1,6 +1,6 @@
 -- How a text is cut into tokens by longest match, and what the first refusal in it is.
 -- Source: the rule of the longest match, as lexical analysis states it; the three refusals are our own.
-use Rattle.std.specs.Prelude.{◌≡◌, ℕ, ◌+◌, ◌≤◌, List, [], ◌∷◌, ◌++◌, length}
+use Rattle.std.specs.Prelude.{◌≡◌, ◌≢◌, ℕ, ◌+◌, ◌≤◌, List, [], ◌∷◌, ◌++◌, length}
 use Rattle.std.specs.Str.{chars, encode_utf8_all}
 use Rattle.lexer.specs.Terminal.{Terminal}
 use Rattle.lexer.specs.Lexeme.{Lexeme, Word, Gap, LargeLiteral, OpenComment, IsLexeme}
@@ -8,7 +8,7 @@ use Rattle.lexer.specs.declared.token.Kind.{Kind}
 use Rattle.lexer.specs.declared.token.Kind.TheVariants.{End}
 use Rattle.lexer.specs.declared.fault.LexRefusalKind.{LexRefusalKind}
 use Rattle.lexer.specs.declared.fault.LexRefusalKind.TheVariants.{NoToken, LiteralTooLarge, UnclosedComment}
-use Rattle.lexer.specs.declared.fault.LexRefusal.{LexRefusal}
+use Rattle.common.specs.declared.refusal.RefusalAt.{RefusalAt}
 
 -- the text begins with the lexeme `front`, and with no longer one; `rest` follows
 pub record IsNextLexeme (text : List ℕ) (lexeme : Lexeme) (front rest : List ℕ) : Type 0 where
@@ -43,19 +43,14 @@ pub record IsCut (text : List ℕ) (tokens : List Terminal) : Type 0 where
   pub cuts : Cuts 0 (chars text) words (length text) []
   pub ended : tokens ≡ words ++ terminal_at (length text) End [] ∷ []
 
--- no lexeme stands at the front of the text, and it does not end here
-pub record HasNoLexeme (text : List ℕ) : Type 0 where
-  pub goes_on : text ≡ [] → ⊥
-  pub none : (lexeme : Lexeme) (front rest : List ℕ) → IsLexeme lexeme front → text ≡ front ++ rest → ⊥
-
--- the text goes on with no lexeme, or with one that is refused
+-- the text goes on, but with no lexeme, or it goes on with one that is refused
 abbrev pub IsRefusedFor : List ℕ → LexRefusalKind → Type 0
-IsRefusedFor text NoToken = HasNoLexeme text
+IsRefusedFor text NoToken = (text ≢ []) × ((lexeme : Lexeme) (front rest : List ℕ) → IsLexeme lexeme front → text ≢ front ++ rest)
 IsRefusedFor text LiteralTooLarge = (front : List ℕ) × (rest : List ℕ) × IsNextLexeme text LargeLiteral front rest
 IsRefusedFor text UnclosedComment = (front : List ℕ) × (rest : List ℕ) × IsNextLexeme text OpenComment front rest
 
 -- what stands before the refusal is cut into tokens, and the refusal is what comes then
-pub record IsTextRefused (text : List ℕ) (refusal : LexRefusal) : Type 0 where
+pub record IsTextRefused (text : List ℕ) (refusal : RefusalAt LexRefusalKind) : Type 0 where
   pub words : List Terminal
   pub rest : List ℕ
   pub cuts : Cuts 0 (chars text) words refusal.at rest

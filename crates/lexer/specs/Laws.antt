@@ -4,7 +4,8 @@ use Rattle.std.specs.Prelude.{◌≡◌, ◌⊎◌, ℕ, List}
 use Rattle.std.specs.Str.{IsUtf8}
 use Rattle.lexer.specs.Cut.{IsCut, IsTextRefused}
 use Rattle.lexer.specs.Terminal.{Terminal}
-use Rattle.lexer.specs.declared.fault.LexRefusal.{LexRefusal}
+use Rattle.common.specs.declared.refusal.RefusalAt.{RefusalAt}
+use Rattle.lexer.specs.declared.fault.LexRefusalKind.{LexRefusalKind}
 
 -- a text is cut in one way at most
 abbrev pub HasOneCut : Type 0
@@ -12,14 +13,14 @@ HasOneCut = (text : List ℕ) (tokens others : List Terminal) → IsCut text tok
 
 -- a text that is cut is not refused
 abbrev pub IsNotCutAndRefused : Type 0
-IsNotCutAndRefused = (text : List ℕ) (tokens : List Terminal) (refusal : LexRefusal) → IsCut text tokens → IsTextRefused text refusal → ⊥
+IsNotCutAndRefused = (text : List ℕ) (tokens : List Terminal) (refusal : RefusalAt LexRefusalKind) → IsCut text tokens → IsTextRefused text refusal → ⊥
 
 -- a text is refused for one reason at most
 abbrev pub TextsHaveOneRefusal : Type 0
-TextsHaveOneRefusal = (text : List ℕ) (refusal other : LexRefusal) → IsTextRefused text refusal → IsTextRefused text other → refusal ≡ other
+TextsHaveOneRefusal = (text : List ℕ) (refusal other : RefusalAt LexRefusalKind) → IsTextRefused text refusal → IsTextRefused text other → refusal ≡ other
 
 -- a text is cut, or it is refused
 abbrev pub IsCutOrRefused : Type 0
 IsCutOrRefused =
     (text : List ℕ) → IsUtf8 text
-    → ((tokens : List Terminal) × IsCut text tokens) ⊎ ((refusal : LexRefusal) × IsTextRefused text refusal)
+    → ((tokens : List Terminal) × IsCut text tokens) ⊎ ((refusal : RefusalAt LexRefusalKind) × IsTextRefused text refusal)

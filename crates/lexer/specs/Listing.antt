@@ -6,7 +6,8 @@ use Rattle.std.specs.Str.Parse.{digits_value}
 use Rattle.lexer.specs.Lexeme.{IsNumeral, sign_of}
 use Rattle.lexer.specs.Terminal.{Terminal}
 use Rattle.lexer.specs.Words.{is_name_text, keyword_of}
-use Rattle.lexer.specs.declared.fault.LexRefusal.{LexRefusal}
+use Rattle.common.specs.declared.refusal.RefusalAt.{RefusalAt}
+use Rattle.lexer.specs.declared.fault.LexRefusalKind.{LexRefusalKind}
 use Rattle.lexer.specs.declared.token.Kind.{Kind}
 use Rattle.lexer.specs.declared.token.Kind.TheVariants.{Name, Integer, End}
 use Rattle.common.specs.declared.limits.TheConstants.{MAX_INTEGER}
@@ -36,5 +37,5 @@ abbrev pub IsAtCharacter : List ℕ → Terminal → Type 0
 IsAtCharacter source t = IsCharBoundary source t.start
 
 -- the refusal stands where a character of the source begins
-abbrev pub IsRefusedAtCharacter : List ℕ → LexRefusal → Type 0
+abbrev pub IsRefusedAtCharacter : List ℕ → RefusalAt LexRefusalKind → Type 0
 IsRefusedAtCharacter source refusal = IsCharBoundary source refusal.at

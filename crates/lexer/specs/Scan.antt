@@ -4,10 +4,12 @@ use Rattle.std.specs.Prelude.{◌≡◌, ℕ, ◌==◌, ◌&&◌, ◌||◌, Bool
 use Rattle.std.specs.List.{list_any}
 use Rattle.std.specs.Map.{lookup_entry}
 use Rattle.std.specs.Char.{is_ascii_digit}
-use Rattle.lexer.specs.Words.{is_white_space, keywords, may_begin, may_continue}
+use Rattle.lexer.specs.Words.{is_white_space, keywords, may_begin}
+use Rattle.unicode_ident.specs.Ident.{is_xid_continue}
 use Rattle.lexer.specs.Lexeme.{Lexeme, Word, Gap, sign_of, signs}
 use Rattle.lexer.specs.Cut.{IsNextLexeme, IsRefusedFor}
-use Rattle.lexer.specs.declared.fault.LexRefusal.{LexRefusal}
+use Rattle.common.specs.declared.refusal.RefusalAt.{RefusalAt}
+use Rattle.lexer.specs.declared.fault.LexRefusalKind.{LexRefusalKind}
 use Rattle.lexer.specs.declared.token.Kind.{Kind}
 use Rattle.lexer.specs.declared.pieces.Class.{Class}
 use Rattle.lexer.specs.declared.pieces.Class.TheVariants.{Blank, Digit, NamePart, InLine}
@@ -23,7 +25,7 @@ candidate_of count first = lookup_entry (has_shape count first) keywords
 abbrev pub holds : Class → ℕ → Bool
 holds Blank c = is_white_space c
 holds Digit c = is_ascii_digit c
-holds NamePart c = may_continue c
+holds NamePart c = is_xid_continue c
 holds InLine c = not (c == 10)
 
 -- the text is empty, or does not begin with an ASCII character of the class
@@ -85,5 +87,5 @@ abbrev pub IsTriple : ℕ → List ℕ → Kind → List ℕ → Type 0
 IsTriple c cs kind rest = (d : ℕ) × (e : ℕ) × (cs ≡ d ∷ e ∷ rest) × (sign_of (c ∷ d ∷ e ∷ []) ≡ Some kind)
 
 -- the refusal is how the text goes on at the byte `start`
-abbrev pub IsStuck : ℕ → List ℕ → LexRefusal → Type 0
+abbrev pub IsStuck : ℕ → List ℕ → RefusalAt LexRefusalKind → Type 0
 IsStuck start text refusal = (refusal.at ≡ start) × IsRefusedFor text refusal.kind

@@ -12,17 +12,14 @@ use Rattle.lexer.specs.declared.token.Kind.TheVariants.{Boolean, Break, Catch, C
 abbrev pub is_white_space : ℕ → Bool
 is_white_space c = c == 32 || c == 9 || c == 13 || c == 10
 
--- whether a name may begin with the character; whether it may go on with it
+-- whether a name may begin with the character
 abbrev pub may_begin : ℕ → Bool
 may_begin c = is_xid_start c || c == 95
-
-abbrev pub may_continue : ℕ → Bool
-may_continue c = is_xid_continue c
 
 -- a first character and any number of further ones
 abbrev pub is_identifier : List ℕ → Bool
 is_identifier [] = false
-is_identifier (c ∷ cs) = may_begin c && list_all may_continue cs
+is_identifier (c ∷ cs) = may_begin c && list_all is_xid_continue cs
 
 -- the keywords, each with the kind of its token
 abbrev pub keywords : List (List ℕ × Kind)

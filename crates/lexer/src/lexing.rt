@@ -1,12 +1,14 @@
 ghost use Rattle.common.specs.Answers.{Answers, IfRefused};
+ghost use Rattle.common.specs.declared.refusal.RefusalAt.{RefusalAt};
 ghost use Rattle.lexer.specs.Cut.{IsCut, IsTextRefused};
 ghost use Rattle.lexer.specs.Laws.{IsCutOrRefused, HasOneCut, IsNotCutAndRefused, TextsHaveOneRefusal};
 ghost use Rattle.lexer.specs.Listing.{IsAtCharacter, IsRefusedAtCharacter, IsInOrder, IsSliceOf, IsSpelled};
 ghost use Rattle.lexer.specs.Terminal.{Terminal, terminals_of, IsTerminated};
+ghost use Rattle.lexer.specs.declared.fault.LexRefusalKind.{LexRefusalKind};
 ghost use Rattle.std.specs.Prelude.{◌≡◌, ◌≤◌, ◌+◌, List, IfOk, IfErr, length};
 ghost use Rattle.std.specs.List.{All};
 
-use crate::fault::{LexFault, LexRefusal};
+use crate::fault::LexFault;
 use crate::pieces::{Piece, cut_piece, skip_blanks, split_first, take_front};
 use crate::token::{Kind, Token};
 use common::OrNoMemory;
@@ -21,7 +23,7 @@ pub fn lex(alloc: Global, src: &str) -> Result<Vec<Token<'_>>, LexFault>
     ensures complete { (tokens : List Terminal) → IsCut src.now tokens →
         Answers (λ found. terminals_of found.items ≡ tokens) (λ _. ⊥) result }
     ensures first_fault { IfErr result (IfRefused (IsTextRefused src.now)) }
-    ensures refuses { (refusal : LexRefusal) → IsTextRefused src.now refusal →
+    ensures refuses { (refusal : RefusalAt LexRefusalKind) → IsTextRefused src.now refusal →
         Answers (λ _. ⊥) (λ found. found ≡ refusal) result }
     ensures terminated { IfOk result (λ tokens. IsTerminated (terminals_of tokens.items)) }
     ensures in_order { IfOk result (λ tokens.

@@ -6,6 +6,7 @@
 
 pub mod fault;
 pub mod lexing;
+mod message;
 pub mod names;
 mod pieces;
 pub mod position;

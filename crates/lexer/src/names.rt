@@ -1,5 +1,6 @@
 ghost use Rattle.lexer.specs.Scan.{candidate_of};
-ghost use Rattle.lexer.specs.Words.{keyword_of, is_name_text, is_identifier, may_begin, may_continue};
+ghost use Rattle.lexer.specs.Words.{keyword_of, is_name_text, is_identifier, may_begin};
+ghost use Rattle.unicode_ident.specs.Ident.{is_xid_continue};
 ghost use Rattle.std.specs.Prelude.{◌≡◌, option_map};
 ghost use Rattle.std.specs.Str.{chars};
 
@@ -36,7 +37,7 @@ pub(crate) fn begins_name(character: char) -> bool
 }
 
 pub(crate) fn continues_name(character: char) -> bool
-    ensures { result ≡ may_continue character }
+    ensures { result ≡ is_xid_continue character }
 {
     unicode_ident::is_xid_continue(character)
 }

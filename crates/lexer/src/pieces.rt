@@ -1,7 +1,8 @@
 //! The next lexeme of a text. A private part of the lexer.
-ghost use Rattle.lexer.specs.Cut.{HasNoLexeme};
+ghost use Rattle.lexer.specs.Cut.{IsRefusedFor};
 ghost use Rattle.lexer.specs.Lexeme.{sign_of};
 ghost use Rattle.lexer.specs.Scan.{holds, after_run, after_close, begins_sign, begins_sign_of, IsStopped, IsDouble, IsNoDouble, IsTriple, IsNoTriple, IsTail, Reads, IsStuck};
+ghost use Rattle.lexer.specs.declared.fault.LexRefusalKind.TheVariants.{NoToken};
 ghost use Rattle.lexer.specs.Words.{is_white_space, may_begin};
 ghost use Rattle.std.specs.Prelude.{◌≡◌, ◌&&◌, ◌++◌, ◌∷◌, [], IfSome, MatchResult, MatchOption, IsTrue, Some, None, false, nat_lt};
 ghost use Rattle.std.specs.Char.{is_ascii_digit};
@@ -148,8 +149,8 @@ fn cut_solidus<'a>(text: &'a str, after: &'a str, at: usize) -> Result<Piece<'a>
 fn cut_sign<'a>(text: &'a str, first: char, after: &'a str) -> Option<Piece<'a>>
     requires split { chars text.now ≡ first ∷ chars after.now }
     requires begins { IsTrue (begins_sign first) }
-    ensures { MatchOption result (HasNoLexeme (chars text.now)) (λ piece. Reads (chars text.now)
-        piece.kind (chars piece.rest.now)) }
+    ensures { MatchOption result (IsRefusedFor (chars text.now) NoToken)
+        (λ piece. Reads (chars text.now) piece.kind (chars piece.rest.now)) }
 {
     if let Some(kind) = kind_of_short(first) {
         return Some(Piece {

@@ -3,7 +3,7 @@ use Rattle.common.specs.Functions.{same_truth}
 use Rattle.std.proofs.Common.{◌≡◌, ℕ, ◌+◌, List, [], ◌∷◌, ◌++◌, length, ap, ◌∙◌, sym, refl, arith, length-append, append_assoc}
 use Rattle.modules.specs.declared.instruction.Instruction.{Instruction}
 use Rattle.resolved.specs.declared.expression.Variable.{Variable}
-use Rattle.resolved.specs.declared.expression.Connective.{Connective}
+use Rattle.common.specs.declared.operator.Connective.{Connective}
 use Rattle.resolved.specs.declared.expression.Operator.{Operator}
 use Rattle.resolved.specs.Tree.{Expression, Binary, Short}
 use Rattle.lowering.specs.Expressions.{store_element_of, operator_instruction, value_size, value_code, rest_of_short, arguments_code, arguments_size, branch_code, branch_size, deciding}

@@ -1,19 +1,17 @@
 -- Code of a condition goes to its target where the condition has the wanted truth, and else on after.
 use Rattle.common.specs.Functions.{same_truth}
-use Rattle.std.proofs.Common.{◌≡◌, ℕ, ◌+◌, Bool, true, false, not, ℤ, pos, negsuc, List, [], ◌∷◌, refl, sym, ap, subst, arith}
-use Rattle.std.specs.Prelude.{Option, if◌then◌else◌, int_le, int_lt}
-use Rattle.std.proofs.lemmas.Bool.Decides.{nat_tests}
+use Rattle.std.proofs.Common.{◌≡◌, ℕ, ◌+◌, Bool, true, false, not, List, [], ◌∷◌, refl, sym, ap, subst, arith}
+use Rattle.std.specs.Prelude.{Option, if◌then◌else◌}
+use Rattle.common.proofs.Operators.{comparison_turned, sameness_turned}
 use Rattle.std.proofs.lemmas.Bool.{and_parts}
 use Rattle.resolved.specs.declared.expression.Value.{Value}
 use Rattle.resolved.specs.declared.expression.Value.TheVariants.{Number, Truth}
 use Rattle.common.specs.declared.base_type.BaseType.TheVariants as base
-use Rattle.resolved.specs.declared.expression.Prefix.TheVariants as prefix
+use Rattle.common.specs.declared.operator.Prefix.TheVariants as prefix
 use Rattle.resolved.specs.declared.expression.Operator.{Operator}
 use Rattle.resolved.specs.declared.expression.Operator.TheVariants as operator
-use Rattle.resolved.specs.declared.expression.Relation.TheVariants as relation
-use Rattle.resolved.specs.declared.expression.Sameness.TheVariants as sameness
-use Rattle.resolved.specs.declared.expression.Connective.{Connective}
-use Rattle.resolved.specs.declared.expression.Connective.TheVariants.{And, Or}
+use Rattle.common.specs.declared.operator.Connective.{Connective}
+use Rattle.common.specs.declared.operator.Connective.TheVariants.{And, Or}
 use Rattle.resolved.specs.Tree.{Expression, Integer, Logical, Read, Element, Unary, Binary, Short}
 use Rattle.resolved.specs.SourceState as source
 use Rattle.resolved.specs.SourceState.{value_of}
@@ -46,19 +44,6 @@ BranchRuns g h wanted target from end s (Raises exception) = Leads g.p from (thr
 
 -- ---- negated conditions
 
-negated_order : (a b : ℤ) → int_le b a ≡ not (int_lt a b)
-negated_order (pos m) (pos n) = grind (arith, nat_tests)
-negated_order (negsuc m) (negsuc n) = grind (arith, nat_tests)
-negated_order (pos m) (negsuc n) = refl
-negated_order (negsuc m) (pos n) = refl
-
-negated_order' : (a b : ℤ) → int_lt b a ≡ not (int_le a b)
-negated_order' a b = go (int_lt b a) refl
-  where
-    go : (t : Bool) → int_lt b a ≡ t → int_lt b a ≡ not (int_le a b)
-    go true e = rw (negated_order b a, e) refl
-    go false e = rw (negated_order b a, e) refl
-
 twice : (b : Bool) → b ≡ not (not b)
 twice true = refl
 twice false = refl
@@ -68,17 +53,9 @@ negated_truth a b e = ap (λ (t : Bool). Yields (Truth t)) e
 
 negated-operator : (op : Operator) (v w : Value) → result_base op ≡ base.Boolean
     → operator_value (negated_operator op) v w ≡ then_with (operator_value op v w) (λ x. Yields (prefix_value prefix.Not x))
-negated-operator (operator.Compare relation.LessThan) v w e = negated_truth _ _ (negated_order (number_in v) (number_in w))
-negated-operator (operator.Compare relation.AtMost) v w e = negated_truth _ _ (negated_order' (number_in v) (number_in w))
-negated-operator (operator.Compare relation.GreaterThan) v w e = negated_truth _ _ (negated_order (number_in w) (number_in v))
-negated-operator (operator.Compare relation.AtLeast) v w e = negated_truth _ _ (negated_order' (number_in w) (number_in v))
-negated-operator (operator.Compare relation.Equal) v w e = refl
-negated-operator (operator.Compare relation.Unequal) v w e = negated_truth _ _ (twice _)
-negated-operator (operator.Match sameness.Same) v w e = refl
-negated-operator (operator.Match sameness.Different) v w e = negated_truth _ _ (twice _)
+negated-operator (operator.Compare comparison) v w e = negated_truth _ _ (comparison_turned comparison (number_in v) (number_in w))
+negated-operator (operator.Match sameness) v w e = negated_truth _ _ (sameness_turned sameness (same_truth (truth_in v) (truth_in w)))
 negated-operator (operator.Compute computed) v w e = cc
-negated-operator (operator.Divide divided) v w e = cc
-negated-operator (operator.Bits made) v w e = cc
 
 negated_pair : (op : Operator) (first second : Evaluated Value) → result_base op ≡ base.Boolean
     → then_with first (λ v. then_with second (λ w. operator_value (negated_operator op) v w))

@@ -2,7 +2,7 @@
 use Rattle.std.proofs.Common.{◌≡◌, refl, List, [], ◌∷◌, None}
 use Rattle.resolved.specs.declared.expression.Variable.TheVariants.{Local}
 use Rattle.resolved.specs.declared.expression.Operator.TheVariants as operator
-use Rattle.resolved.specs.declared.expression.Division.TheVariants.{Quotient}
+use Rattle.common.specs.declared.operator.Arithmetic.TheVariants.{Divide}
 use Rattle.resolved.specs.Tree as tree
 use Rattle.resolved.specs.Program.{Program}
 use Rattle.modules.specs.declared.instruction.Instruction.{Instruction}
@@ -27,7 +27,7 @@ nested : (p : Program) → ◌≡◌ {A = List Instruction}
 nested p = refl
 
 caught : (p : Program) → ◌≡◌ {A = List Handler}
-    (block_table p 0 (tree.Then (tree.Try 0 (tree.Then (tree.Send 0 0 (tree.Binary (operator.Divide Quotient) (tree.Integer 1) x)) tree.Empty)
+    (block_table p 0 (tree.Then (tree.Try 0 (tree.Then (tree.Send 0 0 (tree.Binary (operator.Compute Divide) (tree.Integer 1) x)) tree.Empty)
     (tree.Catch 0 0 (tree.Then (tree.ReturnWith 0 None) tree.Empty) tree.NoMore)) tree.Empty))
     (record { start = 0; end = 4; exception = 0; target = 5 } ∷ [])
 caught p = refl

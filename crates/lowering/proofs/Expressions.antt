@@ -1,29 +1,23 @@
 -- Code of a whole expression pushes its value, or raises what the expression raises: operators, connectives and arguments.
 use Rattle.common.specs.Functions.{same_truth}
-use Rattle.std.proofs.Common.{◌≡◌, ℕ, ◌+◌, ◌≤◌, Bool, true, false, not, ℤ, pos, negsuc, List, [], ◌∷◌, ◌++◌, length, refl, sym, ap, ◌∙◌, subst, arith}
-use Rattle.std.specs.Prelude.{Option, Some, None, if◌then◌else◌, int_le, int_lt, ◌&&◌, ◌+ℤ◌, ◌-ℤ◌, ◌*ℤ◌, int_div, int_rem, neg_ℤ}
-use Rattle.std.specs.Ordering.{int_eq}
-use Rattle.std.proofs.lemmas.Bool.Decides.{same_from_decides, Decides-int_eq, nat_tests}
+use Rattle.std.proofs.Common.{◌≡◌, ℕ, ◌+◌, ◌≤◌, Bool, true, false, not, ℤ, List, [], ◌∷◌, ◌++◌, length, refl, sym, ap, ◌∙◌, arith}
+use Rattle.std.specs.Prelude.{Option, Some, None, if◌then◌else◌, ◌&&◌, ◌+ℤ◌, ◌-ℤ◌, ◌*ℤ◌, int_div, int_rem, neg_ℤ}
 use Rattle.std.proofs.lemmas.Bool.{and_parts}
 use Rattle.resolved.specs.declared.expression.Value.{Value}
 use Rattle.resolved.specs.declared.expression.Value.TheVariants.{Number, Truth}
 use Rattle.common.specs.declared.base_type.BaseType.{BaseType}
 use Rattle.common.specs.declared.base_type.BaseType.TheVariants as base
-use Rattle.resolved.specs.declared.expression.Prefix.{Prefix}
-use Rattle.resolved.specs.declared.expression.Prefix.TheVariants as prefix
+use Rattle.common.specs.declared.operator.Prefix.{Prefix}
+use Rattle.common.specs.declared.operator.Prefix.TheVariants as prefix
 use Rattle.resolved.specs.declared.expression.Operator.{Operator}
 use Rattle.resolved.specs.declared.expression.Operator.TheVariants as operator
-use Rattle.resolved.specs.declared.expression.Computation.TheVariants as computation
-use Rattle.resolved.specs.declared.expression.Division.TheVariants as division
-use Rattle.resolved.specs.declared.expression.BitOperator.TheVariants as bits
-use Rattle.resolved.specs.declared.expression.Relation.TheVariants as relation
-use Rattle.resolved.specs.declared.expression.Sameness.TheVariants as sameness
-use Rattle.resolved.specs.declared.expression.Connective.{Connective}
-use Rattle.resolved.specs.declared.expression.Connective.TheVariants.{And, Or}
+use Rattle.common.specs.declared.operator.Arithmetic.TheVariants as arithmetic
+use Rattle.common.specs.declared.operator.Connective.{Connective}
+use Rattle.common.specs.declared.operator.Connective.TheVariants.{And, Or}
 use Rattle.resolved.specs.Tree.{Expression, Integer, Logical, Read, Element, Unary, Binary, Short}
 use Rattle.resolved.specs.SourceState as source
 use Rattle.resolved.specs.SourceState.{value_of, values_of, cells, cell_at}
-use Rattle.resolved.specs.Value.{Evaluated, Yields, Raises, literal_number, base_of, prefix_value, operator_value, decides, wrapped}
+use Rattle.resolved.specs.Value.{Evaluated, Yields, literal_number, base_of, prefix_value, operator_value, or_arith, decides}
 use Rattle.resolved.specs.WellFormed.{variable_type, has_base, same_base, array_by, prefix_base, operand_base, result_base}
 use Rattle.resolved.specs.Kinds.{StateFits}
 use Rattle.resolved.proofs.Sound.Values.{value_fits}
@@ -41,29 +35,11 @@ use Rattle.lowering.proofs.Steps.{Leads, leads-through}
 use Rattle.lowering.proofs.States.{Setting, state_at, position, cell_of, thrown_to, raised-is}
 use Rattle.lowering.proofs.SingleSteps.{does, onward}
 use Rattle.lowering.proofs.Values.{Finds, finds-part, ValueRuns, value-from, value-to, value-at, then-runs, read-runs, element-runs}
-use Rattle.common.specs.Bits.{bits_and, bits_or, bits_xor, shifted_left, shifted_right, shifted_right_unsigned}
+use Rattle.common.specs.Operators.{bits_of, compared, matched, wrapped}
 use Rattle.common.specs.Integers.{is_zero}
 use Rattle.resolved.proofs.Sound.Meanings.{base_given}
 
 -- ---- single instructions
-
-le_itself : (a : ℤ) → int_le a a ≡ true
-le_itself (pos n) = grind (arith, nat_tests)
-le_itself (negsuc n) = grind (arith, nat_tests)
-
-le_both : (a b : ℤ) → int_le a b ≡ true → int_le b a ≡ true → a ≡ b
-le_both (pos m) (pos n) h k =
-    let same : m ≡ n = grind (arith, nat_tests) in ap (λ (i : ℕ). pos i) same
-le_both (negsuc m) (negsuc n) h k =
-    let same : m ≡ n = grind (arith, nat_tests) in ap (λ (i : ℕ). negsuc i) same
-le_both (pos m) (negsuc n) h k = cc
-le_both (negsuc m) (pos n) h k = cc
-
-same_equal : (a b : ℤ) → (int_le a b && int_le b a) ≡ int_eq a b
-same_equal a b =
-    same_from_decides (int_le a b && int_le b a) (int_eq a b)
-    (λ h. le_both a b (and_parts (int_le a b) (int_le b a) h).0 (and_parts (int_le a b) (int_le b a) h).1, λ e. subst (λ c. (int_le a c && int_le c a) ≡ true) e (rw (le_itself a) refl))
-    (Decides-int_eq a b)
 
 -- a number that was made of operands is pushed
 abbrev pushes_made : Setting → ℕ → (operands before : List Cell) → source.SourceState → Option ℤ → Machine
@@ -74,7 +50,7 @@ module _ (g : Setting) (h : ℕ → Option ℕ) (s : source.SourceState) where
       → is_zero z ≡ test → Stands g.code (i ∷ more) at → ((exception : ℕ) → g.p.find g.number at exception ≡ h exception)
       → act g.p i (state_at g at (cell.Int z ∷ cell.Int a ∷ operands) s)
       ≡ pushes_made g at operands (cell.Int z ∷ cell.Int a ∷ operands) s (if is_zero z then None else Some result)
-      → ValueRuns g h operands (position g at (cell.Int z ∷ cell.Int a ∷ operands) s) (at + 1) s (if test then Raises 0 else Yields (Number result))
+      → ValueRuns g h operands (position g at (cell.Int z ∷ cell.Int a ∷ operands) s) (at + 1) s (or_arith (if test then None else Some result))
   division-runs i a z result true at operands more e stands finds acts =
       let before = cell.Int z ∷ cell.Int a ∷ operands in
       does g more i at before s _ stands
@@ -95,44 +71,24 @@ module _ (g : Setting) (h : ℕ → Option ℕ) (s : source.SourceState) where
   numbers-run : (op : Operator) (a b : ℤ) (at : ℕ) (operands : List Cell) (more : List Instruction) → operand_base op ≡ base.Int
       → Stands g.code (operator_instruction op ∷ more) at → ((exception : ℕ) → g.p.find g.number at exception ≡ h exception)
       → ValueRuns g h operands (position g at (cell.Int b ∷ cell.Int a ∷ operands) s) (at + 1) s (operator_value op (Number a) (Number b))
-  numbers-run (operator.Compute computation.Add) a b at operands more ints stands finds = gives-runs _ at _ operands (Number (wrapped (a +ℤ b))) more stands refl
-  numbers-run (operator.Compute computation.Subtract) a b at operands more ints stands finds = gives-runs _ at _ operands (Number (wrapped (a -ℤ b))) more stands refl
-  numbers-run (operator.Compute computation.Multiply) a b at operands more ints stands finds = gives-runs _ at _ operands (Number (wrapped (a *ℤ b))) more stands refl
-  numbers-run (operator.Divide division.Quotient) a b at operands more ints stands finds =
+  numbers-run (operator.Compute arithmetic.Add) a b at operands more ints stands finds = gives-runs _ at _ operands (Number (wrapped (a +ℤ b))) more stands refl
+  numbers-run (operator.Compute arithmetic.Subtract) a b at operands more ints stands finds = gives-runs _ at _ operands (Number (wrapped (a -ℤ b))) more stands refl
+  numbers-run (operator.Compute arithmetic.Multiply) a b at operands more ints stands finds = gives-runs _ at _ operands (Number (wrapped (a *ℤ b))) more stands refl
+  numbers-run (operator.Compute arithmetic.Divide) a b at operands more ints stands finds =
       division-runs _ a b (wrapped (int_div a b)) (is_zero b) at operands more refl stands finds refl
-  numbers-run (operator.Divide division.Remainder) a b at operands more ints stands finds =
+  numbers-run (operator.Compute arithmetic.Remainder) a b at operands more ints stands finds =
       division-runs _ a b (int_rem a b) (is_zero b) at operands more refl stands finds refl
-  numbers-run (operator.Bits bits.BitAnd) a b at operands more ints stands finds =
-      gives-runs _ at _ operands (Number (bits_and a b)) more stands refl
-  numbers-run (operator.Bits bits.BitOr) a b at operands more ints stands finds =
-      gives-runs _ at _ operands (Number (bits_or a b)) more stands refl
-  numbers-run (operator.Bits bits.BitXor) a b at operands more ints stands finds =
-      gives-runs _ at _ operands (Number (bits_xor a b)) more stands refl
-  numbers-run (operator.Bits bits.ShiftLeft) a b at operands more ints stands finds =
-      gives-runs _ at _ operands (Number (shifted_left a b)) more stands refl
-  numbers-run (operator.Bits bits.ShiftRight) a b at operands more ints stands finds =
-      gives-runs _ at _ operands (Number (shifted_right a b)) more stands refl
-  numbers-run (operator.Bits bits.ShiftRightUnsigned) a b at operands more ints stands finds =
-      gives-runs _ at _ operands (Number (shifted_right_unsigned a b)) more stands refl
-  numbers-run (operator.Compare relation.LessThan) a b at operands more ints stands finds = gives-runs _ at _ operands (Truth (int_lt a b)) more stands refl
-  numbers-run (operator.Compare relation.AtMost) a b at operands more ints stands finds = gives-runs _ at _ operands (Truth (int_le a b)) more stands refl
-  numbers-run (operator.Compare relation.GreaterThan) a b at operands more ints stands finds = gives-runs _ at _ operands (Truth (int_lt b a)) more stands refl
-  numbers-run (operator.Compare relation.AtLeast) a b at operands more ints stands finds = gives-runs _ at _ operands (Truth (int_le b a)) more stands refl
-  numbers-run (operator.Compare relation.Equal) a b at operands more ints stands finds =
-      gives-runs _ at _ operands (Truth (int_eq a b)) more stands
-      (ap (λ (t : Bool). goes_on g.p (state_at g at (cell.Int b ∷ cell.Int a ∷ operands) s) (cell.Bool t ∷ operands)) (same_equal a b))
-  numbers-run (operator.Compare relation.Unequal) a b at operands more ints stands finds =
-      gives-runs _ at _ operands (Truth (not (int_eq a b))) more stands
-      (ap (λ (t : Bool). goes_on g.p (state_at g at (cell.Int b ∷ cell.Int a ∷ operands) s) (cell.Bool (not t) ∷ operands)) (same_equal a b))
-  numbers-run (operator.Match matched) a b at operands more ints stands finds = cc
+  numbers-run (operator.Compute (arithmetic.Bits made)) a b at operands more ints stands finds =
+      gives-runs _ at _ operands (Number (bits_of made a b)) more stands refl
+  numbers-run (operator.Compare comparison) a b at operands more ints stands finds =
+      gives-runs _ at _ operands (Truth (compared comparison a b)) more stands refl
+  numbers-run (operator.Match sameness) a b at operands more ints stands finds = cc
 
   truths-run : (op : Operator) (a b : Bool) (at : ℕ) (operands : List Cell) (more : List Instruction) → operand_base op ≡ base.Boolean
       → Stands g.code (operator_instruction op ∷ more) at
       → ValueRuns g h operands (position g at (cell.Bool b ∷ cell.Bool a ∷ operands) s) (at + 1) s (operator_value op (Truth a) (Truth b))
-  truths-run (operator.Match sameness.Same) a b at operands more truths stands =
-      gives-runs _ at _ operands (Truth (same_truth a b)) more stands refl
-  truths-run (operator.Match sameness.Different) a b at operands more truths stands =
-      gives-runs _ at _ operands (Truth (not (same_truth a b))) more stands refl
+  truths-run (operator.Match sameness) a b at operands more truths stands =
+      gives-runs _ at _ operands (Truth (matched sameness (same_truth a b))) more stands refl
   truths-run _ a b at operands more truths stands = absurd (let no : base.Int ≡ base.Boolean = truths in cc)
 
   operator-runs : (op : Operator) (v w : Value) (at : ℕ) (operands : List Cell) (more : List Instruction)

@@ -10,17 +10,17 @@ use Rattle.common.specs.declared.base_type.BaseType.{BaseType}
 use Rattle.common.specs.declared.base_type.BaseType.TheVariants.{Int, Boolean}
 use Rattle.resolved.specs.declared.expression.Variable.{Variable}
 use Rattle.resolved.specs.declared.expression.Variable.TheVariants.{Global, Local}
-use Rattle.resolved.specs.declared.expression.Prefix.{Prefix}
-use Rattle.resolved.specs.declared.expression.Prefix.TheVariants as prefix
+use Rattle.common.specs.declared.operator.Prefix.{Prefix}
+use Rattle.common.specs.declared.operator.Prefix.TheVariants as prefix
 use Rattle.resolved.specs.declared.expression.Operator.{Operator}
 use Rattle.resolved.specs.declared.expression.Operator.TheVariants as operator
-use Rattle.resolved.specs.declared.expression.BitOperator.TheVariants as bits
-use Rattle.resolved.specs.declared.expression.Computation.TheVariants as computation
-use Rattle.resolved.specs.declared.expression.Division.TheVariants as division
-use Rattle.resolved.specs.declared.expression.Relation.TheVariants as relation
-use Rattle.resolved.specs.declared.expression.Sameness.TheVariants as sameness
-use Rattle.resolved.specs.declared.expression.Connective.{Connective}
-use Rattle.resolved.specs.declared.expression.Connective.TheVariants.{And, Or}
+use Rattle.common.specs.declared.operator.BitOperator.TheVariants as bits
+use Rattle.common.specs.declared.operator.Arithmetic.TheVariants as arithmetic
+use Rattle.common.specs.declared.operator.Comparison.TheVariants as comparison
+use Rattle.common.specs.declared.operator.Order.TheVariants as order
+use Rattle.common.specs.declared.operator.Sameness.TheVariants as sameness
+use Rattle.common.specs.declared.operator.Connective.{Connective}
+use Rattle.common.specs.declared.operator.Connective.TheVariants.{And, Or}
 use Rattle.resolved.specs.declared.statement.Exit.{Exit}
 use Rattle.resolved.specs.declared.statement.Exit.TheVariants.{Normal, Return, Break, Continue, Throw}
 use Rattle.common.specs.declared.direction.Direction.{Direction}
@@ -90,18 +90,16 @@ prefix-numbered version prefix.Negate = refl
 prefix-numbered version prefix.Not = refl
 
 operator-numbered : (version : Version) (o : Operator) → Allows version (is_bit_operator o) → IsNumbered version (operator_instruction o)
-operator-numbered version (operator.Compute computation.Add) k = refl
-operator-numbered version (operator.Divide division.Quotient) k = refl
-operator-numbered version (operator.Bits bits.BitAnd) k = rw (k refl) refl
-operator-numbered version (operator.Bits made) k = rw (k refl) refl
-operator-numbered version (operator.Compare relation.LessThan) k = refl
+operator-numbered version (operator.Compute (arithmetic.Bits bits.BitAnd)) k = rw (k refl) refl
+operator-numbered version (operator.Compute (arithmetic.Bits made)) k = rw (k refl) refl
+operator-numbered version (operator.Compute arithmetic.Add) k = refl
+operator-numbered version (operator.Compare (comparison.Ordered order.LessThan)) k = refl
+operator-numbered version (operator.Compare (comparison.Matched sameness.Same)) k = refl
 operator-numbered version (operator.Match sameness.Same) k = refl
 operator-numbered version o k = refl
 
 negated-allows : (version : Version) (o : Operator) → Allows version (is_bit_operator o) → Allows version (is_bit_operator (negated_operator o))
 negated-allows version (operator.Compute computed) k = k
-negated-allows version (operator.Divide divided) k = k
-negated-allows version (operator.Bits made) k = k
 negated-allows version (operator.Compare compared) k = k
 negated-allows version (operator.Match matched) k = k
 

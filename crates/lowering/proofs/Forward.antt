@@ -5,13 +5,12 @@ use Rattle.std.proofs.lemmas.Option.{none-some}
 use Rattle.resolved.specs.FaultParts.{place_of, may_stand, inner_faults}
 use Rattle.resolved.specs.declared.expression.Variable.{Variable}
 use Rattle.resolved.specs.declared.expression.Variable.TheVariants.{Global, Local}
-use Rattle.resolved.specs.declared.expression.Prefix.{Prefix}
-use Rattle.resolved.specs.declared.expression.Prefix.TheVariants as prefix
+use Rattle.common.specs.declared.operator.Prefix.{Prefix}
+use Rattle.common.specs.declared.operator.Prefix.TheVariants as prefix
 use Rattle.resolved.specs.declared.expression.Operator.{Operator}
 use Rattle.resolved.specs.declared.expression.Operator.TheVariants as operator
-use Rattle.resolved.specs.declared.expression.Sameness.TheVariants as sameness
-use Rattle.resolved.specs.declared.expression.Connective.{Connective}
-use Rattle.resolved.specs.declared.expression.Connective.TheVariants.{And, Or}
+use Rattle.common.specs.declared.operator.Connective.{Connective}
+use Rattle.common.specs.declared.operator.Connective.TheVariants.{And, Or}
 use Rattle.resolved.specs.declared.statement.Exit.{Exit}
 use Rattle.resolved.specs.declared.statement.Exit.TheVariants.{Normal, Return, Break, Continue, Throw}
 use Rattle.resolved.specs.Tree.{Expression, Integer, Logical, Read, Element, Unary, Binary, Short, Statement, Assign, Clear, Store, Receive, Send, Call, If, While, Leave, ReturnWith, Try, Nested, Block, Empty, Then, Handlers, NoMore, Catch}
@@ -88,11 +87,8 @@ prefix-still prefix.Not = refl
 
 operator-still : (o : Operator) → jump_of (Some (operator_instruction o)) ≡ None
 operator-still (operator.Compute computed) = refl
-operator-still (operator.Divide divided) = refl
-operator-still (operator.Bits made) = refl
 operator-still (operator.Compare compared) = refl
-operator-still (operator.Match sameness.Same) = refl
-operator-still (operator.Match sameness.Different) = refl
+operator-still (operator.Match matched) = refl
 
 -- ---- expressions
 short-ahead : (connective : Connective) (at size : ℕ) (right : ℕ → List Instruction) → ((position : ℕ) → Ahead position (right position)) → ((position : ℕ) → length (right position) ≡ size)

@@ -6,11 +6,10 @@ use Rattle.std.specs.Prelude.{is_none, is_some, nat_lt, if◌then◌else◌}
 use Rattle.common.specs.declared.base_type.BaseType.{BaseType}
 use Rattle.resolved.specs.declared.expression.Variable.{Variable}
 use Rattle.resolved.specs.declared.expression.Variable.TheVariants.{Global, Local}
-use Rattle.resolved.specs.declared.expression.Prefix.{Prefix}
-use Rattle.resolved.specs.declared.expression.Prefix.TheVariants as prefix
+use Rattle.common.specs.declared.operator.Prefix.{Prefix}
+use Rattle.common.specs.declared.operator.Prefix.TheVariants as prefix
 use Rattle.resolved.specs.declared.expression.Operator.{Operator}
 use Rattle.resolved.specs.declared.expression.Operator.TheVariants as operator
-use Rattle.resolved.specs.declared.expression.Sameness.TheVariants as sameness
 use Rattle.common.specs.declared.direction.Direction.TheVariants as direction
 use Rattle.common.proofs.Cases.{none_there}
 use Rattle.resolved.specs.Program.{Program, ProcedureEntry, SlotEntry, ChannelEntry}
@@ -185,11 +184,8 @@ module _ (m : ModuleContents) (p : ProcedureContents) where
   pub operator-does : (o : Operator) (kinds : List BaseType)
       → Does m p (operator_instruction o) (operand_base o ∷ operand_base o ∷ kinds) (result_base o ∷ kinds)
   operator-does (operator.Compute computed) kinds = numbers _ kinds
-  operator-does (operator.Divide divided) kinds = numbers _ kinds
-  operator-does (operator.Bits made) kinds = numbers _ kinds
   operator-does (operator.Compare compared) kinds = compares _ kinds
-  operator-does (operator.Match sameness.Same) kinds = going (instruction.Operate machine.SameBoolean) (Boolean ∷ Boolean ∷ kinds) (Boolean ∷ kinds) refl refl refl refl
-  operator-does (operator.Match sameness.Different) kinds = going (instruction.Operate machine.OtherBoolean) (Boolean ∷ Boolean ∷ kinds) (Boolean ∷ kinds) refl refl refl refl
+  operator-does (operator.Match matched) kinds = going (instruction.Operate (machine.Match matched)) (Boolean ∷ Boolean ∷ kinds) (Boolean ∷ kinds) refl refl refl refl
 
   pub receive-does : (channel : ℕ) (kinds : List BaseType) → is_input (slice_get (machine_code m).directions channel) ≡ true
       → Does m p (instruction.Receive channel) kinds (Int ∷ kinds)

@@ -15,8 +15,6 @@ negated_bases : (op : Operator) → result_base op ≡ base.Boolean → (result_
 negated_bases (operator.Compare compared) e = (refl, refl)
 negated_bases (operator.Match matched) e = (refl, refl)
 negated_bases (operator.Compute computed) e = cc
-negated_bases (operator.Divide divided) e = cc
-negated_bases (operator.Bits made) e = cc
 
 -- the operands of an operator whose value has a base type
 pub record OperandsFit (program : Program) (procedure : ProcedureEntry) (wanted : BaseType) (op : Operator) (d e : Expression) : Type 0 where

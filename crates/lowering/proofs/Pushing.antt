@@ -5,9 +5,9 @@ use Rattle.std.proofs.lemmas.Bool.{and_parts}
 use Rattle.std.specs.Prelude.{not, if◌then◌else◌}
 use Rattle.common.specs.declared.base_type.BaseType.{BaseType}
 use Rattle.common.specs.declared.base_type.BaseType.TheVariants as base
-use Rattle.resolved.specs.declared.expression.Prefix.TheVariants as prefix
-use Rattle.resolved.specs.declared.expression.Connective.{Connective}
-use Rattle.resolved.specs.declared.expression.Connective.TheVariants.{And, Or}
+use Rattle.common.specs.declared.operator.Prefix.TheVariants as prefix
+use Rattle.common.specs.declared.operator.Connective.{Connective}
+use Rattle.common.specs.declared.operator.Connective.TheVariants.{And, Or}
 use Rattle.resolved.specs.Tree.{Expression, Integer, Logical, Read, Element, Unary, Binary, Short}
 use Rattle.resolved.specs.Program.{Program, ProcedureEntry, SlotEntry}
 use Rattle.resolved.specs.Value.{literal_number}

@@ -6,13 +6,12 @@ use Rattle.std.specs.Prelude.{IfSome, Option, Some, None, not}
 use Rattle.std.proofs.lemmas.List.Elements.{All-nil, All-cons, All-append}
 use Rattle.resolved.specs.declared.expression.Variable.{Variable}
 use Rattle.resolved.specs.declared.expression.Variable.TheVariants.{Global, Local}
-use Rattle.resolved.specs.declared.expression.Prefix.{Prefix}
-use Rattle.resolved.specs.declared.expression.Prefix.TheVariants as prefix
+use Rattle.common.specs.declared.operator.Prefix.{Prefix}
+use Rattle.common.specs.declared.operator.Prefix.TheVariants as prefix
 use Rattle.resolved.specs.declared.expression.Operator.{Operator}
 use Rattle.resolved.specs.declared.expression.Operator.TheVariants as operator
-use Rattle.resolved.specs.declared.expression.Sameness.TheVariants as sameness
-use Rattle.resolved.specs.declared.expression.Connective.{Connective}
-use Rattle.resolved.specs.declared.expression.Connective.TheVariants.{And, Or}
+use Rattle.common.specs.declared.operator.Connective.{Connective}
+use Rattle.common.specs.declared.operator.Connective.TheVariants.{And, Or}
 use Rattle.resolved.specs.Tree.{Expression, Integer, Logical, Read, Element, Unary, Binary, Short}
 use Rattle.modules.specs.declared.instruction.Instruction.{Instruction}
 use Rattle.modules.specs.declared.instruction.Instruction.TheVariants as instruction
@@ -66,11 +65,8 @@ prefix-below n prefix.Not = tt
 
 operator-below : (n : ℕ) (o : Operator) → Below n (operator_instruction o)
 operator-below n (operator.Compute computed) = tt
-operator-below n (operator.Divide divided) = tt
-operator-below n (operator.Bits made) = tt
 operator-below n (operator.Compare compared) = tt
-operator-below n (operator.Match sameness.Same) = tt
-operator-below n (operator.Match sameness.Different) = tt
+operator-below n (operator.Match matched) = tt
 
 short-below : (connective : Connective) (at size n : ℕ) (right : ℕ → List Instruction) → at + (1 + (size + 2)) < n
     → ((position : ℕ) → position + size < n → Stays n (right position)) → Stays n (rest_of_short connective at size right)

@@ -3,34 +3,21 @@
 -- Positions are numbers of instructions in the code of a procedure, from 0 on; code is made for the position at which it is to stand.
 -- Source: our own; jumping code for conditions as textbooks give it.
 use Rattle.common.specs.Functions.{same_truth}
+use Rattle.common.specs.Operators.{opposite, opposite_sameness}
 use Rattle.std.specs.Prelude.{ℕ, ◌+◌, Bool, true, false, not, List, [], ◌∷◌, ◌++◌, if◌then◌else◌}
 use Rattle.resolved.specs.declared.expression.Variable.{Variable}
 use Rattle.resolved.specs.declared.expression.Variable.TheVariants as variable
-use Rattle.resolved.specs.declared.expression.Prefix.{Prefix}
-use Rattle.resolved.specs.declared.expression.Prefix.TheVariants as prefix
+use Rattle.common.specs.declared.operator.Prefix.{Prefix}
+use Rattle.common.specs.declared.operator.Prefix.TheVariants as prefix
 use Rattle.resolved.specs.declared.expression.Operator.{Operator}
 use Rattle.resolved.specs.declared.expression.Operator.TheVariants as operator
-use Rattle.resolved.specs.declared.expression.Computation.{Computation}
-use Rattle.resolved.specs.declared.expression.Computation.TheVariants as computation
-use Rattle.resolved.specs.declared.expression.Division.{Division}
-use Rattle.resolved.specs.declared.expression.Division.TheVariants as division
-use Rattle.resolved.specs.declared.expression.BitOperator.{BitOperator}
-use Rattle.resolved.specs.declared.expression.BitOperator.TheVariants as bits
-use Rattle.resolved.specs.declared.expression.Relation.{Relation}
-use Rattle.resolved.specs.declared.expression.Relation.TheVariants as relation
-use Rattle.resolved.specs.declared.expression.Sameness.{Sameness}
-use Rattle.resolved.specs.declared.expression.Sameness.TheVariants as sameness
-use Rattle.resolved.specs.declared.expression.Connective.{Connective}
-use Rattle.resolved.specs.declared.expression.Connective.TheVariants.{And, Or}
+use Rattle.common.specs.declared.operator.Connective.{Connective}
+use Rattle.common.specs.declared.operator.Connective.TheVariants.{And, Or}
 use Rattle.resolved.specs.Tree.{Expression, Integer, Logical, Read, Element, Unary, Binary, Short}
 use Rattle.resolved.specs.Value.{literal_number}
-use Rattle.modules.specs.declared.instruction.Arithmetic.{Arithmetic}
-use Rattle.modules.specs.declared.instruction.Arithmetic.TheVariants.{Add, Subtract, Multiply, Divide, Remainder, BitAnd, BitOr, BitXor, ShiftLeft, ShiftRight, ShiftRightUnsigned}
-use Rattle.modules.specs.declared.instruction.Comparison.{Comparison}
-use Rattle.modules.specs.declared.instruction.Comparison.TheVariants.{Less, AtMost, Greater, AtLeast, Equal, NotEqual}
 use Rattle.modules.specs.declared.instruction.Instruction.{Instruction}
 use Rattle.modules.specs.declared.instruction.MachineOperator.{MachineOperator}
-use Rattle.modules.specs.declared.instruction.MachineOperator.TheVariants.{Compute, Negate, Not, Compare, SameBoolean, OtherBoolean}
+use Rattle.modules.specs.declared.instruction.MachineOperator.TheVariants.{Compute, Compare, Match, Negate, Not}
 use Rattle.modules.specs.declared.instruction.Storage.TheVariants as storage
 use Rattle.modules.specs.declared.instruction.Instruction.TheVariants.{Push, PushBoolean, Load, Store, LoadElement, StoreElement, Operate, Jump, JumpIfFalse}
 
@@ -55,41 +42,10 @@ abbrev pub prefix_instruction : Prefix → Instruction
 prefix_instruction prefix.Negate = Operate Negate
 prefix_instruction prefix.Not = Operate Not
 
-abbrev pub computation_arithmetic : Computation → Arithmetic
-computation_arithmetic computation.Add = Add
-computation_arithmetic computation.Subtract = Subtract
-computation_arithmetic computation.Multiply = Multiply
-
-abbrev pub division_arithmetic : Division → Arithmetic
-division_arithmetic division.Quotient = Divide
-division_arithmetic division.Remainder = Remainder
-
-abbrev pub bit_arithmetic : BitOperator → Arithmetic
-bit_arithmetic bits.BitAnd = BitAnd
-bit_arithmetic bits.BitOr = BitOr
-bit_arithmetic bits.BitXor = BitXor
-bit_arithmetic bits.ShiftLeft = ShiftLeft
-bit_arithmetic bits.ShiftRight = ShiftRight
-bit_arithmetic bits.ShiftRightUnsigned = ShiftRightUnsigned
-
-abbrev pub comparison_of : Relation → Comparison
-comparison_of relation.LessThan = Less
-comparison_of relation.AtMost = AtMost
-comparison_of relation.GreaterThan = Greater
-comparison_of relation.AtLeast = AtLeast
-comparison_of relation.Equal = Equal
-comparison_of relation.Unequal = NotEqual
-
-abbrev pub sameness_operator : Sameness → MachineOperator
-sameness_operator sameness.Same = SameBoolean
-sameness_operator sameness.Different = OtherBoolean
-
 abbrev pub machine_operator : Operator → MachineOperator
-machine_operator (operator.Compute computed) = Compute (computation_arithmetic computed)
-machine_operator (operator.Divide divided) = Compute (division_arithmetic divided)
-machine_operator (operator.Bits made) = Compute (bit_arithmetic made)
-machine_operator (operator.Compare compared) = Compare (comparison_of compared)
-machine_operator (operator.Match matched) = sameness_operator matched
+machine_operator (operator.Compute computed) = Compute computed
+machine_operator (operator.Compare compared) = Compare compared
+machine_operator (operator.Match matched) = Match matched
 
 abbrev pub operator_instruction : Operator → Instruction
 operator_instruction operator = Operate (machine_operator operator)
@@ -134,25 +90,10 @@ arguments_code at [] = []
 arguments_code at (e ∷ rest) = value_code at e ++ arguments_code (at + value_size e) rest
 
 -- ---- conditions
--- the relation and the sameness that are true exactly where another is false
-abbrev pub opposite_relation : Relation → Relation
-opposite_relation relation.LessThan = relation.AtLeast
-opposite_relation relation.AtMost = relation.GreaterThan
-opposite_relation relation.GreaterThan = relation.AtMost
-opposite_relation relation.AtLeast = relation.LessThan
-opposite_relation relation.Equal = relation.Unequal
-opposite_relation relation.Unequal = relation.Equal
-
-abbrev pub opposite_sameness : Sameness → Sameness
-opposite_sameness sameness.Same = sameness.Different
-opposite_sameness sameness.Different = sameness.Same
-
 -- the operator that is true exactly where an operator is false; one that gives a number has none and stays
 abbrev pub negated_operator : Operator → Operator
 negated_operator (operator.Compute computed) = operator.Compute computed
-negated_operator (operator.Divide divided) = operator.Divide divided
-negated_operator (operator.Bits made) = operator.Bits made
-negated_operator (operator.Compare compared) = operator.Compare (opposite_relation compared)
+negated_operator (operator.Compare compared) = operator.Compare (opposite compared)
 negated_operator (operator.Match matched) = operator.Match (opposite_sameness matched)
 
 -- a condition that is true exactly where a condition is false. A connective is negated as a whole here; the code of a condition never

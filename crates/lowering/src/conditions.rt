@@ -1,47 +1,25 @@
 //! Code of conditions, which goes to a position where the condition has a wanted truth.
 ghost use Rattle.common.specs.Functions.{same_truth};
 ghost use Rattle.resolved.specs.TreeOf.{expression_of};
-ghost use Rattle.lowering.specs.Expressions.{branch_code, branch_size, deciding, test_code, tested, negated, negated_operator, opposite_relation, opposite_sameness, value_code, value_size};
+ghost use Rattle.lowering.specs.Expressions.{branch_code, branch_size, deciding, test_code, tested, negated, negated_operator, value_code, value_size};
 ghost use Rattle.std.specs.Prelude.{OnOk, if◌then◌else◌, length, ◌++◌, ◌+◌, ◌<◌, ◌^◌, ◌≡◌};
 
 use crate::emitter::push;
 use crate::instructions::operator_instruction;
 use crate::operands::{push_value, value_size};
+use common::{Connective, Prefix};
 use modules::{Instruction, MachineOperator};
-use resolved::expression::{Connective, Expression, Operator, Prefix, Relation, Sameness};
+use resolved::expression::{Expression, Operator};
 use std::alloc::AllocError;
-
-/// The relation that is true exactly where another is false.
-fn opposite_relation(relation: Relation) -> Relation
-    ensures { result ≡ opposite_relation relation }
-{
-    match relation {
-        Relation::LessThan => Relation::AtLeast,
-        Relation::AtMost => Relation::GreaterThan,
-        Relation::GreaterThan => Relation::AtMost,
-        Relation::AtLeast => Relation::LessThan,
-        Relation::Equal => Relation::Unequal,
-        Relation::Unequal => Relation::Equal,
-    }
-}
-
-fn opposite_sameness(sameness: Sameness) -> Sameness
-    ensures { result ≡ opposite_sameness sameness }
-{
-    match sameness {
-        Sameness::Same => Sameness::Different,
-        Sameness::Different => Sameness::Same,
-    }
-}
 
 /// The operator that is true exactly where an operator is false; one that gives a number stays.
 fn negated_operator(operator: Operator) -> Operator
     ensures { result ≡ negated_operator operator }
 {
     match operator {
-        Operator::Compute(_) | Operator::Divide(_) | Operator::Bits(_) => operator,
-        Operator::Compare(relation) => Operator::Compare(opposite_relation(relation)),
-        Operator::Match(sameness) => Operator::Match(opposite_sameness(sameness)),
+        Operator::Compute(_) => operator,
+        Operator::Compare(comparison) => Operator::Compare(comparison.opposite()),
+        Operator::Match(sameness) => Operator::Match(sameness.opposite()),
     }
 }
 

@@ -1,13 +1,14 @@
 //! Code of expressions: of their values, and of conditions that go to a position.
 ghost use Rattle.resolved.specs.TreeOf.{expression_of};
 ghost use Rattle.lowering.specs.Expressions.{arguments_code, arguments_size, rest_of_short, value_code, value_size};
-ghost use Rattle.resolved.specs.declared.expression.Connective.TheVariants.{And, Or};
+ghost use Rattle.common.specs.declared.operator.Connective.TheVariants.{And, Or};
 ghost use Rattle.std.specs.Prelude.{OnOk, length, map, ◌++◌, ◌+◌, ◌<◌, ◌^◌, ◌≡◌};
 
 use crate::emitter::{next_position, push};
 use crate::instructions::{load_element_of, load_of, operator_instruction, prefix_instruction};
+use common::Connective;
 use modules::Instruction;
-use resolved::expression::{Connective, Expression};
+use resolved::expression::Expression;
 use std::alloc::AllocError;
 
 /// How many instructions the code of the expression's value has.

@@ -6,6 +6,7 @@ ghost use Rattle.resolved.specs.TreeOf.{block_of, expression_of, handlers_of, st
 ghost use Rattle.std.specs.List.{list_any};
 ghost use Rattle.std.specs.Prelude.{map, ◌≡◌};
 
+use common::Arithmetic;
 use modules::Version;
 use resolved::expression::{Expression, Operator};
 use resolved::program::Core;
@@ -41,7 +42,7 @@ fn expression_uses_bits(expression: &Expression) -> bool
         Expression::Integer(_) | Expression::Logical(_) | Expression::Read(_) => false,
         Expression::Element(_, _, index) => expression_uses_bits(index),
         Expression::Unary(_, operand) => expression_uses_bits(operand),
-        Expression::Binary(Operator::Bits(_), _) => true,
+        Expression::Binary(Operator::Compute(Arithmetic::Bits(_)), _) => true,
         Expression::Binary(_, operands) => {
             expression_uses_bits(&operands.0) || expression_uses_bits(&operands.1)
         }

@@ -7,9 +7,12 @@ use Rattle.std.proofs.lemmas.List.Elements.{All-nil, All-cons}
 use Rattle.std.proofs.lemmas.Int.{to_z-of_z}
 use Rattle.std.proofs.lemmas.Nat.{from_be_bytes-to_be_bytes_4}
 use Rattle.std.proofs.Math.Facts.{Fits-of_z, Fits-of_lt, Fits-lt-pow, sfits_to_z}
-use Rattle.modules.specs.declared.instruction.Arithmetic.TheVariants.{Add}
-use Rattle.modules.specs.declared.instruction.Comparison.TheVariants.{Less}
-use Rattle.modules.specs.declared.instruction.MachineOperator.TheVariants.{Compute, Compare}
+use Rattle.common.specs.declared.operator.Arithmetic.TheVariants.{Bits}
+use Rattle.common.specs.declared.operator.BitOperator.TheVariants.{BitAnd}
+use Rattle.common.specs.declared.operator.Comparison.TheVariants.{Ordered, Matched}
+use Rattle.common.specs.declared.operator.Order.TheVariants.{LessThan}
+use Rattle.common.specs.declared.operator.Sameness.TheVariants.{Same}
+use Rattle.modules.specs.declared.instruction.MachineOperator.TheVariants.{Compute, Compare, Match}
 use Rattle.modules.specs.declared.instruction.Storage.TheVariants.{Local}
 use Rattle.modules.specs.declared.instruction.Instruction.{Instruction}
 use Rattle.modules.specs.declared.instruction.Instruction.TheVariants.{Push, PushBoolean, Load, Store, LoadElement, StoreElement, Operate}
@@ -69,8 +72,10 @@ spells_it (Load Local slot) = refl
 spells_it (Store Local slot) = refl
 spells_it (LoadElement Local slot) = refl
 spells_it (StoreElement Local slot) = refl
-spells_it (Operate (Compute Add)) = refl
-spells_it (Operate (Compare Less)) = refl
+spells_it (Operate (Compute (Bits BitAnd))) = refl
+spells_it (Operate (Compare (Ordered LessThan))) = refl
+spells_it (Operate (Compare (Matched Same))) = refl
+spells_it (Operate (Match Same)) = refl
 spells_it x = refl
 
 itself : (x : Instruction) (operand : Operand) → SpellsIt x operand → OperandFits operand → instruction_of (opcode_of x) (operand_bytes operand) ≡ Some x
@@ -86,8 +91,10 @@ small (Load Local slot) = lit< tt
 small (Store Local slot) = lit< tt
 small (LoadElement Local slot) = lit< tt
 small (StoreElement Local slot) = lit< tt
-small (Operate (Compute Add)) = lit< tt
-small (Operate (Compare Less)) = lit< tt
+small (Operate (Compute (Bits BitAnd))) = lit< tt
+small (Operate (Compare (Ordered LessThan))) = lit< tt
+small (Operate (Compare (Matched Same))) = lit< tt
+small (Operate (Match Same)) = lit< tt
 small x = lit< tt
 
 -- a version knows the opcodes of the instructions that it has
@@ -97,8 +104,10 @@ known version (Load Local slot) = refl
 known version (Store Local slot) = refl
 known version (LoadElement Local slot) = refl
 known version (StoreElement Local slot) = refl
-known version (Operate (Compute Add)) = refl
-known version (Operate (Compare Less)) = refl
+known version (Operate (Compute (Bits BitAnd))) = refl
+known version (Operate (Compare (Ordered LessThan))) = refl
+known version (Operate (Compare (Matched Same))) = refl
+known version (Operate (Match Same)) = refl
 known version x = refl
 
 pub is_spelled : (version : Version) (x : Instruction) → IsTrue (has_instruction version x) → OperandFits (entry_of x).operand → IsCoded (instructions version) x

@@ -9,6 +9,7 @@ pub mod declaration;
 pub mod fault;
 pub mod instruction;
 pub mod laws;
+mod message;
 pub mod module;
 pub mod opcode;
 pub mod procedure;
@@ -20,9 +21,7 @@ pub use code::code_length;
 pub use contents::Contents;
 pub use declaration::{Global, Handler, Slot};
 pub use fault::FormatRefusalKind;
-pub use instruction::{
-    Arithmetic, Comparison, Instruction, MachineOperator, OperatorKinds, Storage,
-};
+pub use instruction::{Instruction, MachineOperator, OperatorKinds, Storage};
 pub use module::Module;
 pub use procedure::Procedure;
 pub use value::Cell;

@@ -1,9 +1,15 @@
 ghost use Rattle.modules.specs.Opcodes.{examples, flagged, instruction_of, numbered, operand_width, operator_opcode, plain, entry_of, width_after, with_opcode};
 ghost use Rattle.std.specs.Prelude.{IfSome, Some, length, ◌<◌, ◌≡◌, ◌≤◌};
 
-use crate::instruction::{Arithmetic, Comparison, Instruction, MachineOperator, Storage};
+use crate::instruction::{Instruction, MachineOperator, Storage};
 use crate::version::Version;
 use byteorder::{BigEndian, ByteOrder};
+use common::Arithmetic::{Add, Bits, Divide, Multiply, Remainder, Subtract};
+use common::BitOperator::{BitAnd, BitOr, BitXor, ShiftLeft, ShiftRight, ShiftRightUnsigned};
+use common::Comparison::{Matched, Ordered};
+use common::Order::{AtLeast, AtMost, GreaterThan, LessThan};
+use common::Sameness::{Different, Same};
+use common::{Arithmetic, Comparison};
 
 /// What stands after an opcode: nothing, an int, a boolean, or the number of what the instruction names.
 #[derive(Clone, Copy, Debug, PartialEq, Eq)]
@@ -118,27 +124,27 @@ fn operator_entry(operator: MachineOperator) -> OpcodeEntry
     ensures operand { result.operand ≡ Operand.Absent }
 {
     match operator {
-        MachineOperator::Compute(Arithmetic::Add) => plain_entry(Version::One, 0x10, "ADD"),
-        MachineOperator::Compute(Arithmetic::Subtract) => plain_entry(Version::One, 0x11, "SUB"),
-        MachineOperator::Compute(Arithmetic::Multiply) => plain_entry(Version::One, 0x12, "MUL"),
-        MachineOperator::Compute(Arithmetic::Divide) => plain_entry(Version::One, 0x13, "DIV"),
-        MachineOperator::Compute(Arithmetic::Remainder) => plain_entry(Version::One, 0x14, "REM"),
+        MachineOperator::Compute(Add) => plain_entry(Version::One, 0x10, "ADD"),
+        MachineOperator::Compute(Subtract) => plain_entry(Version::One, 0x11, "SUB"),
+        MachineOperator::Compute(Multiply) => plain_entry(Version::One, 0x12, "MUL"),
+        MachineOperator::Compute(Divide) => plain_entry(Version::One, 0x13, "DIV"),
+        MachineOperator::Compute(Remainder) => plain_entry(Version::One, 0x14, "REM"),
         MachineOperator::Negate => plain_entry(Version::One, 0x15, "NEG"),
         MachineOperator::Not => plain_entry(Version::One, 0x16, "NOT"),
-        MachineOperator::Compare(Comparison::Less) => plain_entry(Version::One, 0x17, "LT"),
-        MachineOperator::Compare(Comparison::AtMost) => plain_entry(Version::One, 0x18, "LE"),
-        MachineOperator::Compare(Comparison::Greater) => plain_entry(Version::One, 0x19, "GT"),
-        MachineOperator::Compare(Comparison::AtLeast) => plain_entry(Version::One, 0x1a, "GE"),
-        MachineOperator::Compare(Comparison::Equal) => plain_entry(Version::One, 0x1b, "EQ"),
-        MachineOperator::Compare(Comparison::NotEqual) => plain_entry(Version::One, 0x1c, "NE"),
-        MachineOperator::SameBoolean => plain_entry(Version::One, 0x1d, "BEQ"),
-        MachineOperator::OtherBoolean => plain_entry(Version::One, 0x1e, "BNE"),
-        MachineOperator::Compute(Arithmetic::BitAnd) => plain_entry(Version::Two, 0x28, "AND"),
-        MachineOperator::Compute(Arithmetic::BitOr) => plain_entry(Version::Two, 0x29, "OR"),
-        MachineOperator::Compute(Arithmetic::BitXor) => plain_entry(Version::Two, 0x2a, "XOR"),
-        MachineOperator::Compute(Arithmetic::ShiftLeft) => plain_entry(Version::Two, 0x2b, "SHL"),
-        MachineOperator::Compute(Arithmetic::ShiftRight) => plain_entry(Version::Two, 0x2c, "SHR"),
-        MachineOperator::Compute(Arithmetic::ShiftRightUnsigned) => {
+        MachineOperator::Compare(Ordered(LessThan)) => plain_entry(Version::One, 0x17, "LT"),
+        MachineOperator::Compare(Ordered(AtMost)) => plain_entry(Version::One, 0x18, "LE"),
+        MachineOperator::Compare(Ordered(GreaterThan)) => plain_entry(Version::One, 0x19, "GT"),
+        MachineOperator::Compare(Ordered(AtLeast)) => plain_entry(Version::One, 0x1a, "GE"),
+        MachineOperator::Compare(Matched(Same)) => plain_entry(Version::One, 0x1b, "EQ"),
+        MachineOperator::Compare(Matched(Different)) => plain_entry(Version::One, 0x1c, "NE"),
+        MachineOperator::Match(Same) => plain_entry(Version::One, 0x1d, "BEQ"),
+        MachineOperator::Match(Different) => plain_entry(Version::One, 0x1e, "BNE"),
+        MachineOperator::Compute(Bits(BitAnd)) => plain_entry(Version::Two, 0x28, "AND"),
+        MachineOperator::Compute(Bits(BitOr)) => plain_entry(Version::Two, 0x29, "OR"),
+        MachineOperator::Compute(Bits(BitXor)) => plain_entry(Version::Two, 0x2a, "XOR"),
+        MachineOperator::Compute(Bits(ShiftLeft)) => plain_entry(Version::Two, 0x2b, "SHL"),
+        MachineOperator::Compute(Bits(ShiftRight)) => plain_entry(Version::Two, 0x2c, "SHR"),
+        MachineOperator::Compute(Bits(ShiftRightUnsigned)) => {
             plain_entry(Version::Two, 0x2d, "USHR")
         }
     }
@@ -193,29 +199,29 @@ fn plain_instruction(opcode: u8) -> Option<Instruction>
 {
     match opcode {
         0x03 => Some(Instruction::Pop),
-        0x10 => compute(Arithmetic::Add),
-        0x11 => compute(Arithmetic::Subtract),
-        0x12 => compute(Arithmetic::Multiply),
-        0x13 => compute(Arithmetic::Divide),
-        0x14 => compute(Arithmetic::Remainder),
+        0x10 => compute(Add),
+        0x11 => compute(Subtract),
+        0x12 => compute(Multiply),
+        0x13 => compute(Divide),
+        0x14 => compute(Remainder),
         0x15 => operate(MachineOperator::Negate),
         0x16 => operate(MachineOperator::Not),
-        0x17 => compare(Comparison::Less),
-        0x18 => compare(Comparison::AtMost),
-        0x19 => compare(Comparison::Greater),
-        0x1a => compare(Comparison::AtLeast),
-        0x1b => compare(Comparison::Equal),
-        0x1c => compare(Comparison::NotEqual),
-        0x1d => operate(MachineOperator::SameBoolean),
-        0x1e => operate(MachineOperator::OtherBoolean),
+        0x17 => compare(Ordered(LessThan)),
+        0x18 => compare(Ordered(AtMost)),
+        0x19 => compare(Ordered(GreaterThan)),
+        0x1a => compare(Ordered(AtLeast)),
+        0x1b => compare(Matched(Same)),
+        0x1c => compare(Matched(Different)),
+        0x1d => operate(MachineOperator::Match(Same)),
+        0x1e => operate(MachineOperator::Match(Different)),
         0x23 => Some(Instruction::Return),
         0x24 => Some(Instruction::ReturnValue),
-        0x28 => compute(Arithmetic::BitAnd),
-        0x29 => compute(Arithmetic::BitOr),
-        0x2a => compute(Arithmetic::BitXor),
-        0x2b => compute(Arithmetic::ShiftLeft),
-        0x2c => compute(Arithmetic::ShiftRight),
-        0x2d => compute(Arithmetic::ShiftRightUnsigned),
+        0x28 => compute(Bits(BitAnd)),
+        0x29 => compute(Bits(BitOr)),
+        0x2a => compute(Bits(BitXor)),
+        0x2b => compute(Bits(ShiftLeft)),
+        0x2c => compute(Bits(ShiftRight)),
+        0x2d => compute(Bits(ShiftRightUnsigned)),
         _ => None,
     }
 }

@@ -1,5 +1,5 @@
 -- Statements and blocks fit, and so do the trees of all symbols.
-use Rattle.std.proofs.Common.{◌≡◌, ℕ, ◌+◌, ◌≤◌, List, [], ◌∷◌, sym, subst, inl, inr, ⊎_elim, arith}
+use Rattle.std.proofs.Common.{◌≡◌, ℕ, ◌+◌, ◌<◌, ◌≤◌, List, [], ◌∷◌, sym, subst, inl, inr, ⊎_elim, arith}
 use Rattle.std.specs.Prelude.{Option, None, Some}
 use Rattle.lexer.specs.declared.token.Kind.{Kind}
 use Rattle.lexer.specs.declared.token.Kind.TheVariants as kinds
@@ -9,7 +9,7 @@ use Rattle.parser.specs.Parts.{operand_of, declare, declare_array, assign, assig
 use Rattle.syntax.specs.Nesting.{IsNestedExpression, IsNestedOptionalExpression, IsNestedCall, IsNestedRight, IsNestedStatement, IsNestedBlock, AreNestedCatches}
 use Rattle.syntax.specs.Nodes.{expression_nodes, optional_expression_nodes, call_nodes, right_nodes, statement_nodes, block_nodes, catches_nodes}
 use Rattle.syntax.specs.Symbol.{Symbol, Expression, Unary, Operands, Arguments, Statements, tree_of}
-use Rattle.syntax.specs.Tree.{NameTree, ExpressionTree, CallTree, RightTree, StatementTree, BlockTree, if_tree, catches_of, NestedTree}
+use Rattle.syntax.specs.Tree.{NameTree, ExpressionTree, CallTree, RightTree, StatementTree, BlockTree, BlockOf, if_tree, catches_of, NestedTree}
 use Rattle.syntax.specs.Written.{IsWrittenName, IsWrittenExpression, IsWrittenOptionalExpression, IsWrittenCall, IsWrittenRight, IsWrittenStatement, IsWrittenBlock, AreWrittenCatches}
 use Rattle.parser.proofs.Holds.{Each}
 use Rattle.parser.proofs.Fits.{Fit, Fits, Has, FitStatements, from_at, from_after, from_before}
@@ -213,9 +213,12 @@ module _ (fits : ℕ → Type 0) (word : List ℕ → Type 0) (number : ℕ → 
   otherwise_fits tree k (inr h) =
       subst (λ t. FitOtherwise t k) (sym h.0) (record { written = tt; few = omega arith; nested = tt })
 
-  if_fits : (place : ℕ) (condition : ExpressionTree) (body : BlockTree) (otherwise : Option BlockTree) (k : ℕ) → fits place → IsWrittenExpression fits word number condition → IsNestedExpression room condition → IsWrittenBlock fits word number body → IsNestedBlock room body → Fit (OtherwiseWritten otherwise) (1 + (expression_nodes condition + (block_nodes body + otherwise_nodes otherwise))) (OtherwiseNested otherwise) k → FitStatement (if_tree place condition body otherwise) k
+  has_room : (body : BlockTree) → IsNestedBlock room body → 0 < room
+  has_room (BlockOf at statements) d = d.0
+
+  if_fits : (place : ℕ) (condition : ExpressionTree) (body : BlockTree) (otherwise : Option BlockTree) (k : ℕ) → fits place → IsWrittenExpression fits word number condition → IsNestedExpression room condition → IsWrittenBlock fits word number body → IsNestedBlock room body → Fit (OtherwiseWritten otherwise) (2 + (expression_nodes condition + (block_nodes body + otherwise_nodes otherwise))) (OtherwiseNested otherwise) k → FitStatement (if_tree place condition body otherwise) k
   if_fits place condition body None k here a b c d one =
-      record { written = (here, a, c); few = omega (arith, one.few); nested = (b, d) }
+      record { written = (here, a, c, (here, tt)); few = omega (arith, one.few); nested = (b, d, (has_room body d, tt)) }
   if_fits place condition body (Some otherwise) k here a b c d one =
       record { written = (here, a, c, one.written); few = omega (arith, one.few); nested = (b, d, one.nested) }
 

@@ -2,7 +2,7 @@
 use Rattle.std.proofs.Common.{◌≡◌, ◌⊎◌, List, [], ◌∷◌, ◌++◌, length, length-append, Result, Ok, Err, refl, sym, ◌∙◌, ap, subst, inl, inr, append_assoc, arith}
 use Rattle.common.proofs.Cases.{same_heads, same_tails}
 use Rattle.lexer.specs.Terminal.{Terminal, IsTerminated}
-use Rattle.parser.specs.declared.fault.ParseRefusal.{ParseRefusal}
+use Rattle.common.specs.declared.refusal.RefusalAt.{RefusalAt}
 use Rattle.parser.specs.declared.fault.ParseRefusalKind.{ParseRefusalKind}
 use Rattle.parser.specs.declared.fault.ParseRefusalKind.TheVariants.{UnexpectedToken, TooDeep}
 use Rattle.parser.specs.Reading.{read}
@@ -64,7 +64,7 @@ one_kind UnexpectedToken TooDeep front next e r s = absurd (r (subst IsPrefixOfP
 one_kind TooDeep UnexpectedToken front next e r s = absurd (s (subst IsPrefixOfProgram e r.0))
 one_kind TooDeep TooDeep front next e r s = refl
 
-module _ (tokens : List Terminal) (refusal other : ParseRefusal) (r : AreTokensRefused tokens refusal) (s : AreTokensRefused tokens other) where
+module _ (tokens : List Terminal) (refusal other : RefusalAt ParseRefusalKind) (r : AreTokensRefused tokens refusal) (s : AreTokensRefused tokens other) where
   by_order : Order r.before r.token s.before s.token → (r.before ≡ s.before) × (r.token ≡ s.token)
   by_order (same e f) = (e, f)
   by_order (before between e) =
@@ -82,13 +82,13 @@ module _ (tokens : List Terminal) (refusal other : ParseRefusal) (r : AreTokensR
       let at : refusal.at ≡ other.at = r.place ∙ (ap (λ (token : Terminal). token.start) one_stop.1 ∙ sym s.place) in
       ap (λ d. record { kind = d; at = refusal.at }) kind ∙ ap (λ place. record { kind = other.kind; at = place }) at
 
-pub spelled_not_refused : (tokens : List Terminal) (tree : ProgramTree) (refusal : ParseRefusal) → SpellsProgram tokens tree → AreTokensRefused tokens refusal → ⊥
+pub spelled_not_refused : (tokens : List Terminal) (tree : ProgramTree) (refusal : RefusalAt ParseRefusalKind) → SpellsProgram tokens tree → AreTokensRefused tokens refusal → ⊥
 spelled_not_refused tokens tree refusal spelled r =
     none_within refusal.kind (up_to r.before r.token) r.stops (spelled_front (up_to r.before r.token) r.after tree (subst (λ list. SpellsProgram list tree) (r.tokens_are ∙ sym (append_assoc r.before (r.token ∷ []) r.after)) spelled))
 
-decided : (tokens : List Terminal) (found : Result (ProgramTree × List Terminal) ParseRefusal) → Verdict tokens found → ((tree : ProgramTree) × SpellsProgram tokens tree) ⊎ ((refusal : ParseRefusal) × AreTokensRefused tokens refusal)
+decided : (tokens : List Terminal) (found : Result (ProgramTree × List Terminal) (RefusalAt ParseRefusalKind)) → Verdict tokens found → ((tree : ProgramTree) × SpellsProgram tokens tree) ⊎ ((refusal : RefusalAt ParseRefusalKind) × AreTokensRefused tokens refusal)
 decided tokens (Ok found) v = inl (found.0, v.0)
 decided tokens (Err refusal) v = inr (refusal, v.0)
 
-pub spelled_or_refused : (tokens : List Terminal) → IsTerminated tokens → ((tree : ProgramTree) × SpellsProgram tokens tree) ⊎ ((refusal : ParseRefusal) × AreTokensRefused tokens refusal)
+pub spelled_or_refused : (tokens : List Terminal) → IsTerminated tokens → ((tree : ProgramTree) × SpellsProgram tokens tree) ⊎ ((refusal : RefusalAt ParseRefusalKind) × AreTokensRefused tokens refusal)
 spelled_or_refused tokens terminated = decided tokens (read 64 program tokens) (verdict tokens terminated)

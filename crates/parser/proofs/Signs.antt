@@ -11,9 +11,15 @@ use Rattle.syntax.specs.declared.line.Line.TheVariants as the_lines
 use Rattle.common.specs.declared.base_type.BaseType.{BaseType}
 use Rattle.common.specs.declared.base_type.BaseType.TheVariants as bases
 use Rattle.syntax.specs.declared.tree.BinaryOperator.{BinaryOperator}
-use Rattle.syntax.specs.declared.tree.BinaryOperator.TheVariants as operators
-use Rattle.syntax.specs.declared.tree.UnaryOperator.{UnaryOperator}
-use Rattle.syntax.specs.declared.tree.UnaryOperator.TheVariants as unary_operators
+use Rattle.syntax.specs.declared.tree.BinaryOperator.TheVariants.{Compute, Compare, Connect}
+use Rattle.common.specs.declared.operator.Prefix.{Prefix}
+use Rattle.common.specs.declared.operator.Prefix.TheVariants.{Negate, Not}
+use Rattle.common.specs.declared.operator.Arithmetic.TheVariants.{Add, Subtract, Multiply, Divide, Remainder, Bits}
+use Rattle.common.specs.declared.operator.BitOperator.TheVariants as bits
+use Rattle.common.specs.declared.operator.Comparison.TheVariants.{Ordered, Matched}
+use Rattle.common.specs.declared.operator.Order.TheVariants.{LessThan, AtMost, GreaterThan, AtLeast}
+use Rattle.common.specs.declared.operator.Sameness.TheVariants.{Same, Different}
+use Rattle.common.specs.declared.operator.Connective.TheVariants.{And, Or}
 use Rattle.syntax.specs.Form.{one_of, ◌gives◌, shape, table, same_kind}
 use Rattle.syntax.specs.Grammar.{base, direction, truth, signs, operators_of, lines}
 use Rattle.syntax.specs.Laws.{EachIsThere, SpellsAlone}
@@ -39,10 +45,10 @@ operator_meant the_lines.BitXor kinds.End = refl
 operator_meant the_lines.BitXor _ = refl
 operator_meant the_lines.BitOr kinds.End = refl
 operator_meant the_lines.BitOr _ = refl
-operator_meant the_lines.Conjunction kinds.End = refl
-operator_meant the_lines.Conjunction _ = refl
-operator_meant the_lines.Disjunction kinds.End = refl
-operator_meant the_lines.Disjunction _ = refl
+operator_meant (the_lines.Connected And) kinds.End = refl
+operator_meant (the_lines.Connected And) _ = refl
+operator_meant (the_lines.Connected Or) kinds.End = refl
+operator_meant (the_lines.Connected Or) _ = refl
 
 line_there : (line : Line) → Contains lines line
 line_there the_lines.Product = (9, omega arith, refl)
@@ -53,35 +59,35 @@ line_there the_lines.Equality = (5, omega arith, refl)
 line_there the_lines.BitAnd = (4, omega arith, refl)
 line_there the_lines.BitXor = (3, omega arith, refl)
 line_there the_lines.BitOr = (2, omega arith, refl)
-line_there the_lines.Conjunction = (1, omega arith, refl)
-line_there the_lines.Disjunction = (0, omega arith, refl)
+line_there (the_lines.Connected And) = (1, omega arith, refl)
+line_there (the_lines.Connected Or) = (0, omega arith, refl)
 
 binary_there : (operator : BinaryOperator) → (line : Line) × (kind : Kind) × (table (operators_of line) kind ≡ Some operator)
 unfolding same_kind
-binary_there operators.Multiply = (the_lines.Product, kinds.Star, refl)
-binary_there operators.Divide = (the_lines.Product, kinds.Slash, refl)
-binary_there operators.Remainder = (the_lines.Product, kinds.Percent, refl)
-binary_there operators.Add = (the_lines.Sum, kinds.Plus, refl)
-binary_there operators.Subtract = (the_lines.Sum, kinds.Minus, refl)
-binary_there operators.ShiftLeft = (the_lines.Shift, kinds.ShiftLeft, refl)
-binary_there operators.ShiftRight = (the_lines.Shift, kinds.ShiftRight, refl)
-binary_there operators.ShiftRightUnsigned = (the_lines.Shift, kinds.ShiftRightUnsigned, refl)
-binary_there operators.LessThan = (the_lines.Relation, kinds.LessThan, refl)
-binary_there operators.AtMost = (the_lines.Relation, kinds.AtMost, refl)
-binary_there operators.GreaterThan = (the_lines.Relation, kinds.GreaterThan, refl)
-binary_there operators.AtLeast = (the_lines.Relation, kinds.AtLeast, refl)
-binary_there operators.EqualTo = (the_lines.Equality, kinds.EqualTo, refl)
-binary_there operators.NotEqualTo = (the_lines.Equality, kinds.NotEqualTo, refl)
-binary_there operators.BitAnd = (the_lines.BitAnd, kinds.BitAnd, refl)
-binary_there operators.BitXor = (the_lines.BitXor, kinds.BitXor, refl)
-binary_there operators.BitOr = (the_lines.BitOr, kinds.BitOr, refl)
-binary_there operators.And = (the_lines.Conjunction, kinds.And, refl)
-binary_there operators.Or = (the_lines.Disjunction, kinds.Or, refl)
+binary_there (Compute Multiply) = (the_lines.Product, kinds.Star, refl)
+binary_there (Compute Divide) = (the_lines.Product, kinds.Slash, refl)
+binary_there (Compute Remainder) = (the_lines.Product, kinds.Percent, refl)
+binary_there (Compute Add) = (the_lines.Sum, kinds.Plus, refl)
+binary_there (Compute Subtract) = (the_lines.Sum, kinds.Minus, refl)
+binary_there (Compute (Bits bits.ShiftLeft)) = (the_lines.Shift, kinds.ShiftLeft, refl)
+binary_there (Compute (Bits bits.ShiftRight)) = (the_lines.Shift, kinds.ShiftRight, refl)
+binary_there (Compute (Bits bits.ShiftRightUnsigned)) = (the_lines.Shift, kinds.ShiftRightUnsigned, refl)
+binary_there (Compare (Ordered LessThan)) = (the_lines.Relation, kinds.LessThan, refl)
+binary_there (Compare (Ordered AtMost)) = (the_lines.Relation, kinds.AtMost, refl)
+binary_there (Compare (Ordered GreaterThan)) = (the_lines.Relation, kinds.GreaterThan, refl)
+binary_there (Compare (Ordered AtLeast)) = (the_lines.Relation, kinds.AtLeast, refl)
+binary_there (Compare (Matched Same)) = (the_lines.Equality, kinds.EqualTo, refl)
+binary_there (Compare (Matched Different)) = (the_lines.Equality, kinds.NotEqualTo, refl)
+binary_there (Compute (Bits bits.BitAnd)) = (the_lines.BitAnd, kinds.BitAnd, refl)
+binary_there (Compute (Bits bits.BitXor)) = (the_lines.BitXor, kinds.BitXor, refl)
+binary_there (Compute (Bits bits.BitOr)) = (the_lines.BitOr, kinds.BitOr, refl)
+binary_there (Connect And) = ((the_lines.Connected And), kinds.And, refl)
+binary_there (Connect Or) = ((the_lines.Connected Or), kinds.Or, refl)
 
-unary_there : (operator : UnaryOperator) → (kind : Kind) × (table signs kind ≡ Some operator)
+unary_there : (operator : Prefix) → (kind : Kind) × (table signs kind ≡ Some operator)
 unfolding same_kind
-unary_there unary_operators.Negate = (kinds.Minus, refl)
-unary_there unary_operators.Not = (kinds.Not, refl)
+unary_there Negate = (kinds.Minus, refl)
+unary_there Not = (kinds.Not, refl)
 
 -- a token of a kind, of which nothing else counts
 abbrev token_of : Kind → Terminal

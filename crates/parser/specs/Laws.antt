@@ -2,7 +2,8 @@
 -- Source: our own; that a predictive parser decides its grammar is folklore.
 use Rattle.std.specs.Prelude.{◌≡◌, ◌⊎◌, List}
 use Rattle.lexer.specs.Terminal.{Terminal, IsTerminated}
-use Rattle.parser.specs.declared.fault.ParseRefusal.{ParseRefusal}
+use Rattle.common.specs.declared.refusal.RefusalAt.{RefusalAt}
+use Rattle.parser.specs.declared.fault.ParseRefusalKind.{ParseRefusalKind}
 use Rattle.parser.specs.Refusal.{AreTokensRefused}
 use Rattle.syntax.specs.Grammar.{SpellsProgram}
 use Rattle.syntax.specs.Tree.{ProgramTree}
@@ -11,12 +12,12 @@ use Rattle.syntax.specs.Tree.{ProgramTree}
 abbrev pub IsSpelledOrRefused : Type 0
 IsSpelledOrRefused =
     (tokens : List Terminal) → IsTerminated tokens
-    → ((tree : ProgramTree) × SpellsProgram tokens tree) ⊎ ((refusal : ParseRefusal) × AreTokensRefused tokens refusal)
+    → ((tree : ProgramTree) × SpellsProgram tokens tree) ⊎ ((refusal : RefusalAt ParseRefusalKind) × AreTokensRefused tokens refusal)
 
 -- tokens that spell a tree are not refused
 abbrev pub IsNotSpelledAndRefused : Type 0
-IsNotSpelledAndRefused = (tokens : List Terminal) (tree : ProgramTree) (refusal : ParseRefusal) → SpellsProgram tokens tree → AreTokensRefused tokens refusal → ⊥
+IsNotSpelledAndRefused = (tokens : List Terminal) (tree : ProgramTree) (refusal : RefusalAt ParseRefusalKind) → SpellsProgram tokens tree → AreTokensRefused tokens refusal → ⊥
 
 -- tokens are refused for one reason at most, at one token
 abbrev pub TokensHaveOneRefusal : Type 0
-TokensHaveOneRefusal = (tokens : List Terminal) (refusal other : ParseRefusal) → AreTokensRefused tokens refusal → AreTokensRefused tokens other → refusal ≡ other
+TokensHaveOneRefusal = (tokens : List Terminal) (refusal other : RefusalAt ParseRefusalKind) → AreTokensRefused tokens refusal → AreTokensRefused tokens other → refusal ≡ other

@@ -6,7 +6,7 @@ use Rattle.lexer.specs.declared.token.Kind.{Kind}
 use Rattle.lexer.specs.declared.token.Kind.TheVariants as kinds
 use Rattle.syntax.specs.declared.line.Line.{Line}
 use Rattle.syntax.specs.declared.tree.BinaryOperator.{BinaryOperator}
-use Rattle.syntax.specs.declared.tree.UnaryOperator.{UnaryOperator}
+use Rattle.common.specs.declared.operator.Prefix.{Prefix}
 use Rattle.syntax.specs.Form.{Form, level, ◌·◌, many, ◌gives◌, only, table}
 use Rattle.syntax.specs.Grammar.{key, at, ◌▸◌, ◌◂◌, optional, separated, some, name, label, base, signs, operators_of, integer, index, variable_tree, grouped, others_of, chains, lines, after_line, unary, expression, call, right, size, block, condition, catch, thrown}
 use Rattle.syntax.specs.Symbol.{Expression, Unary}
@@ -17,7 +17,7 @@ unfoldable pub readers : Form (Option (List NameTree))
 readers = optional (kinds.Colon ▸ some kinds.Comma name)
 
 -- of expressions
-abbrev pub sign_of : Kind → Option UnaryOperator
+abbrev pub sign_of : Kind → Option Prefix
 sign_of = table signs
 
 abbrev pub operator_of : Line → Kind → Option BinaryOperator

@@ -7,6 +7,7 @@ pub mod fault;
 mod item;
 mod label;
 mod listed;
+mod message;
 pub mod program;
 mod statement;
 

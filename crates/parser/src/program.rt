@@ -1,4 +1,5 @@
 ghost use Rattle.common.specs.Answers.{Answers, IfRefused};
+ghost use Rattle.common.specs.declared.refusal.RefusalAt.{RefusalAt};
 ghost use Rattle.std.specs.Prelude.{◌≡◌, ◌≤◌, length, IfErr, IfOk};
 ghost use Rattle.lexer.specs.Terminal.{IsTerminated, terminals_of};
 ghost use Rattle.syntax.specs.Grammar.{SpellsProgram, program};
@@ -8,9 +9,10 @@ ghost use Rattle.syntax.specs.Tree.{ProgramTree, program_tree};
 ghost use Rattle.parser.specs.Laws.{IsSpelledOrRefused, IsNotSpelledAndRefused, TokensHaveOneRefusal};
 ghost use Rattle.parser.specs.Reading.{IsRead, read};
 ghost use Rattle.parser.specs.Refusal.{AreTokensRefused};
+ghost use Rattle.parser.specs.declared.fault.ParseRefusalKind.{ParseRefusalKind};
 
 use crate::cursor::Parser;
-use crate::fault::{ParseFault, ParseRefusal};
+use crate::fault::ParseFault;
 use common::limits::MAX_LEVELS;
 use lexer::{Kind, Token};
 use std::alloc::Global;
@@ -52,7 +54,7 @@ pub fn parse<'a>(alloc: Global, tokens: &[Token<'a>]) -> Result<Program<'a>, Par
 
     // A refusal is the first fault, and where the tokens have a fault it is the answer, unless memory ran out.
     ensures first_fault { IfErr result (IfRefused (AreTokensRefused (terminals_of tokens.now))) }
-    ensures refuses { (refusal : ParseRefusal) →
+    ensures refuses { (refusal : RefusalAt ParseRefusalKind) →
         AreTokensRefused (terminals_of tokens.now) refusal →
         Answers (λ _. ⊥) (λ found. found ≡ refusal) result }
 {

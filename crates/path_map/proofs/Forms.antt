@@ -14,7 +14,8 @@ use Rattle.path_map.specs.declared.exits.Raised.{Raised}
 use Rattle.path_map.specs.Exits.{Exits}
 use Rattle.common.specs.declared.fault.OrNoMemory.{OrNoMemory}
 use Rattle.common.specs.Answers.{IfRefused}
-use Rattle.resolved.specs.declared.fault.ExitRefusal.{ExitRefusal}
+use Rattle.common.specs.declared.refusal.RefusalAt.{RefusalAt}
+use Rattle.resolved.specs.declared.fault.ExitRefusalKind.{ExitRefusalKind}
 use Rattle.path_map.specs.FirstFault.{IsFirstEndFault}
 use Rattle.path_map.specs.Exceptions.{is_one_of, raised_list}
 use Rattle.path_map.specs.Joins.{join, of_loop, raises_some}
@@ -34,7 +35,7 @@ module _ (program : Program) (s : S.Statement) (tree : Statement) (is : statemen
   pub faults-at : (in_loop : Bool) → inner_faults program in_loop tree ≡ [] → inner_faults program in_loop (statement_of s) ≡ []
   faults-at in_loop none = ap (inner_faults program in_loop) is ∙ none
 
-  pub first-at : (in_loop : Bool) (fault : OrNoMemory ExitRefusal) → IfRefused (IsFirstEndFault (inner_faults program in_loop tree)) fault
+  pub first-at : (in_loop : Bool) (fault : OrNoMemory (RefusalAt ExitRefusalKind)) → IfRefused (IsFirstEndFault (inner_faults program in_loop tree)) fault
       → IfRefused (IsFirstEndFault (inner_faults program in_loop (statement_of s))) fault
   first-at in_loop fault first = subst (λ t. IfRefused (IsFirstEndFault (inner_faults program in_loop t)) fault) (sym is) first
 

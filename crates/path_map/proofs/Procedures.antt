@@ -27,7 +27,8 @@ use Rattle.path_map.specs.Exits.{Exits}
 use Rattle.common.specs.declared.fault.OrNoMemory.{OrNoMemory}
 use Rattle.common.specs.declared.fault.OrNoMemory.TheVariants.{Refused}
 use Rattle.common.specs.Answers.{IfRefused}
-use Rattle.resolved.specs.declared.fault.ExitRefusal.{ExitRefusal}
+use Rattle.common.specs.declared.refusal.RefusalAt.{RefusalAt}
+use Rattle.resolved.specs.declared.fault.ExitRefusalKind.{ExitRefusalKind}
 use Rattle.path_map.specs.FirstFault.{IsFirstEndFault}
 use Rattle.path_map.specs.Exits.{exits_of, raised_by}
 use Rattle.path_map.specs.Joins.{join_raised}
@@ -86,7 +87,7 @@ some-value labels result normal = ap (λ some. some && normal) (some-result labe
 
 -- the faults of a procedure
 module _ (program : Program) (procedure : ProcedureEntry) where
-  pub body-first : (fault : OrNoMemory ExitRefusal) → IfRefused (IsFirstEndFault (block_faults program false true procedure.body)) fault → IfRefused (IsFirstEndFault (procedure_faults program procedure)) fault
+  pub body-first : (fault : OrNoMemory (RefusalAt ExitRefusalKind)) → IfRefused (IsFirstEndFault (block_faults program false true procedure.body)) fault → IfRefused (IsFirstEndFault (procedure_faults program procedure)) fault
   body-first fault first =
       first-left (block_faults program false true procedure.body
       ++ fault_unless (not (is_some procedure.result && has_exit (block_exits program procedure.body) Normal)) NoValueReturned procedure.at)
@@ -159,7 +160,7 @@ module _ (program : Program) (all : List ProcedureEntry) where
     faults = refl;
   }
 
-  pub beside-first : (procedure : ProcedureEntry) (tail : List ProcedureEntry) (now : List (List Exit)) (fault : OrNoMemory ExitRefusal) → WithEnds program all (procedure ∷ tail) now
+  pub beside-first : (procedure : ProcedureEntry) (tail : List ProcedureEntry) (now : List (List Exit)) (fault : OrNoMemory (RefusalAt ExitRefusalKind)) → WithEnds program all (procedure ∷ tail) now
       → IfRefused (IsFirstEndFault (procedure_faults program procedure)) fault → IfRefused (IsFirstEndFault (flat_map (procedure_faults program) all)) fault
   beside-first procedure tail now fault along first =
       subst (λ faults. IfRefused (IsFirstEndFault faults) fault) along.faults

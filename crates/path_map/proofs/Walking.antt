@@ -12,7 +12,8 @@ use Rattle.resolved.specs.Tree.{Statement, Block, Empty, Then, Handlers, NoMore,
 use Rattle.resolved.specs.Program.{Program}
 use Rattle.resolved.specs.Exits.{same_exit, has_exit, thrown_exits, then_exits, leaves_loop, handles, passes, statement_exits, block_exits, handlers_exits}
 use Rattle.resolved.specs.ExitFaults.{fault_unless, block_faults, handlers_faults}
-use Rattle.resolved.specs.declared.fault.ExitRefusal.{ExitRefusal}
+use Rattle.common.specs.declared.refusal.RefusalAt.{RefusalAt}
+use Rattle.resolved.specs.declared.fault.ExitRefusalKind.{ExitRefusalKind}
 use Rattle.path_map.specs.declared.exits.Raised.{Raised}
 use Rattle.path_map.specs.declared.exits.Raised.TheVariants.{Nothing}
 use Rattle.path_map.specs.Exits.{Exits}
@@ -145,15 +146,15 @@ module _ (b h : List Exit) (handlers : Handlers) (pb ph : List (List Exit)) (e0 
       }
 
 -- the first of faults that are put together
-pub first-left : (a b : List ExitRefusal) (fault : OrNoMemory ExitRefusal) → IfRefused (IsFirstEndFault a) fault → IfRefused (IsFirstEndFault (a ++ b)) fault
+pub first-left : (a b : List (RefusalAt ExitRefusalKind)) (fault : OrNoMemory (RefusalAt ExitRefusalKind)) → IfRefused (IsFirstEndFault a) fault → IfRefused (IsFirstEndFault (a ++ b)) fault
 first-left a b NoMemory first = tt
 first-left [] b (Refused refusal) first = absurd (cc)
 first-left (x ∷ a) b (Refused refusal) first = first
 
-pub first-right : (a b : List ExitRefusal) (fault : OrNoMemory ExitRefusal) → a ≡ [] → IfRefused (IsFirstEndFault b) fault → IfRefused (IsFirstEndFault (a ++ b)) fault
+pub first-right : (a b : List (RefusalAt ExitRefusalKind)) (fault : OrNoMemory (RefusalAt ExitRefusalKind)) → a ≡ [] → IfRefused (IsFirstEndFault b) fault → IfRefused (IsFirstEndFault (a ++ b)) fault
 first-right a b fault none first = subst (λ xs. IfRefused (IsFirstEndFault (xs ++ b)) fault) (sym none) first
 
-pub none-both : (a b : List ExitRefusal) → a ≡ [] → b ≡ [] → a ++ b ≡ []
+pub none-both : (a b : List (RefusalAt ExitRefusalKind)) → a ≡ [] → b ≡ [] → a ++ b ≡ []
 none-both a b p q = ap (λ xs. xs ++ b) p ∙ q
 
 -- along the statements of a block: what was found so far, with what is to come, is what is found of the block
@@ -191,7 +192,7 @@ module _ (program : Program) (in_loop : Bool) (block : Block) (old : List (List 
         subst (λ faults. IfRefused (IsFirstEndFault faults) (Refused (record { kind = kind.Unreachable; at = place_of statement }))) in_parts
         (rw (stands, reached) refl)
 
-    pub inside : may_stand in_loop statement ≡ true → so_far.normal ≡ true → (fault : OrNoMemory ExitRefusal) → IfRefused (IsFirstEndFault (inner_faults program in_loop statement)) fault
+    pub inside : may_stand in_loop statement ≡ true → so_far.normal ≡ true → (fault : OrNoMemory (RefusalAt ExitRefusalKind)) → IfRefused (IsFirstEndFault (inner_faults program in_loop statement)) fault
         → IfRefused (IsFirstEndFault (block_faults program in_loop true block)) fault
     inside stands reached fault first =
         subst (λ faults. IfRefused (IsFirstEndFault faults) fault) in_parts
@@ -234,7 +235,7 @@ module _ (program : Program) (in_loop : Bool) (block : Block) (old : List (List 
   }
 
 -- along handlers: what the walk has taken out of the inner set, and the faults that are to come
-pub record Remaining (program : Program) (in_loop : Bool) (faults : List ExitRefusal) (row : ℕ → Bool) (tail : Handlers) : Type 0 where
+pub record Remaining (program : Program) (in_loop : Bool) (faults : List (RefusalAt ExitRefusalKind)) (row : ℕ → Bool) (tail : Handlers) : Type 0 where
   pub ends : List Exit
   pub are : AreThrown row ends
   pub same : handlers_faults program in_loop ends tail ≡ faults
@@ -289,7 +290,7 @@ module _ (program : Program) (in_loop : Bool) (handlers : Handlers) (old : List 
         let none : throws there.ends handled ≡ false = sym (there.are.has handled) ∙ absent in
         subst (λ faults. IfRefused (IsFirstEndFault faults) (Refused (record { kind = kind.NeverRaised; at = at }))) there.same (rw none refl)
 
-    pub in-handler : row handled ≡ true → (fault : OrNoMemory ExitRefusal) → IfRefused (IsFirstEndFault (block_faults program in_loop true body)) fault
+    pub in-handler : row handled ≡ true → (fault : OrNoMemory (RefusalAt ExitRefusalKind)) → IfRefused (IsFirstEndFault (block_faults program in_loop true body)) fault
         → (ends : List Exit) → AreThrown was ends → IfRefused (IsFirstEndFault (handlers_faults program in_loop ends handlers)) fault
     in-handler present fault first ends are =
         let there = along.remaining ends are in

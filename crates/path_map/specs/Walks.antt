@@ -15,7 +15,8 @@ use Rattle.resolved.specs.Program.{ProcedureEntry}
 use Rattle.resolved.specs.WellFormed.{block_fits, handlers_fit, statement_fits}
 use Rattle.resolved.specs.Exits.{handles, statement_exits, block_exits, handlers_exits}
 use Rattle.resolved.specs.ExitFaults.{block_faults, handlers_faults}
-use Rattle.resolved.specs.declared.fault.ExitRefusal.{ExitRefusal}
+use Rattle.common.specs.declared.refusal.RefusalAt.{RefusalAt}
+use Rattle.resolved.specs.declared.fault.ExitRefusalKind.{ExitRefusalKind}
 use Rattle.path_map.specs.Exits.{Exits}
 use Rattle.path_map.specs.Exits.{exits_of}
 use Rattle.path_map.specs.Paths.{HaveSameExits, inner_paths, block_paths, handlers_paths}
@@ -47,13 +48,13 @@ AreHandlersFound core handlers =
     IsFound (handlers_exits (program_of core) (handlers_of handlers)) (handlers_paths (program_of core) (handlers_of handlers))
 
 -- the faults of a block, of what is in a statement, and of handlers of a block with these exits
-abbrev pub faults_of_block : Core → (in_loop : Bool) → List S.Statement → List ExitRefusal
+abbrev pub faults_of_block : Core → (in_loop : Bool) → List S.Statement → List (RefusalAt ExitRefusalKind)
 faults_of_block core in_loop block = block_faults (program_of core) in_loop true (block_of block)
 
-abbrev pub faults_within : Core → (in_loop : Bool) → S.Statement → List ExitRefusal
+abbrev pub faults_within : Core → (in_loop : Bool) → S.Statement → List (RefusalAt ExitRefusalKind)
 faults_within core in_loop statement = inner_faults (program_of core) in_loop (statement_of statement)
 
-abbrev pub faults_of_handlers : Core → (in_loop : Bool) → (ends : List Exit) → List Handler → List ExitRefusal
+abbrev pub faults_of_handlers : Core → (in_loop : Bool) → (ends : List Exit) → List Handler → List (RefusalAt ExitRefusalKind)
 faults_of_handlers core in_loop ends handlers = handlers_faults (program_of core) in_loop ends (handlers_of handlers)
 
 -- the exceptions of a set are those of exits

@@ -14,7 +14,8 @@ use crate::exits::Raised;
 use crate::members::ExceptionSet;
 use common::exceptions::{ARITH, BOUNDS};
 use common::limits::MAX_INTEGER;
-use resolved::expression::{Expression, Operator, Prefix};
+use common::{Arithmetic, Prefix};
+use resolved::expression::{Expression, Operator};
 use std::alloc::AllocError;
 
 /// Whether an expression, or one of several, can raise `Arith` and `Bounds`. It can raise no other exception.
@@ -154,5 +155,8 @@ fn is_zero(literal: u32) -> bool
 pub fn is_division(operator: Operator) -> bool
     ensures { result ≡ is_division operator }
 {
-    matches!(operator, Operator::Divide(_))
+    matches!(
+        operator,
+        Operator::Compute(Arithmetic::Divide) | Operator::Compute(Arithmetic::Remainder)
+    )
 }

@@ -13,8 +13,9 @@ use Rattle.lexer.specs.Terminal.{Terminal}
 use Rattle.lexer.specs.declared.token.Kind.TheVariants.{Name, End}
 use Rattle.common.specs.declared.limits.TheConstants.{MAX_TEXT}
 use Rattle.principals.specs.ActsFor.{PrincipalHierarchy}
-use Rattle.principals.specs.HierarchyText.{Entry, Nonterminal, Derives, Finish, Declaration, PrincipalRelation, OneMore, Last, declared, IsHierarchyOf}
-use Rattle.principals.specs.Reading.{IsHierarchyForm}
+use Rattle.principals.specs.HierarchyText.{Entry, Nonterminal, Derives, Finish, Declaration, PrincipalRelation, OneMore, Last, IsHierarchyOf}
+use Rattle.principals.specs.Reading.{declared, IsHierarchyForm}
+use Rattle.principals.proofs.Building.{built_names}
 use Rattle.principals.specs.Named.{IsUtf8NameWithin, IsKeptName}
 
 -- the text of a token is UTF-8
@@ -72,7 +73,7 @@ declared_named text tokens entries ok cut form =
 
 pub names_are_names : (text : List ℕ) (hierarchy : PrincipalHierarchy) → IsUtf8 text → IsHierarchyOf text hierarchy → All (IsUtf8NameWithin (length text)) hierarchy.names
 names_are_names text hierarchy ok h =
-    subst (All (IsUtf8NameWithin (length text))) (sym h.described.names) (declared_named text h.has_entries.tokens h.entries ok h.has_entries.cut h.has_entries.form)
+    subst (All (IsUtf8NameWithin (length text))) (sym (built_names h.entries hierarchy h.described)) (declared_named text h.has_entries.tokens h.entries ok h.has_entries.cut h.has_entries.form)
 
 pub declared_kept : (text : List ℕ) (tokens : List Terminal) (entries : List Entry) → IsUtf8 text → length text ≤ MAX_TEXT → IsCut text tokens → IsHierarchyForm tokens entries →
     All IsKeptName (declared entries)

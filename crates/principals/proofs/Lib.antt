@@ -6,7 +6,6 @@ mod Meeting
 pub mod Names
 mod Inclusion
 mod Automaton
-mod Faults
 mod Building
 mod Uniqueness
 mod Spots

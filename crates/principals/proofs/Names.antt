@@ -59,16 +59,21 @@ option_cases : {X : Type 0} (o : Option X) → (o ≡ None) ⊎ ((x : X) × (o �
 option_cases None = inl refl
 option_cases (Some x) = inr (x, refl)
 
+-- a name that is not there has no number
+pub no_number : (names : List (List ℕ)) (name : List ℕ) → (Contains names name → ⊥) → position (bytes_eq name) names ≡ None
+no_number names name new =
+    ⊎_elim
+    (λ none. none)
+    (λ some. absurd (new (contained_at names some.0 name (position_has_name names name some.0 some.1))))
+    (option_cases (position (bytes_eq name) names))
+
 pub no_number_iff : (names : List (List ℕ)) → AllDifferent names → (name : List ℕ) (r : Option ℕ) → r ≡ position (bytes_eq name) names →
     (r ≡ None) ↔ (¬ Contains names name)
 no_number_iff names different name r e = (
   λ h c.
       let n = contained_place names name c in
       none-some n.0 (sym h ∙ e ∙ position_of_name names different name n.0 n.1),
-  λ h. ⊎_elim
-      (λ none. none)
-      (λ some. absurd (h (contained_at names some.0 name (position_has_name names name some.0 (sym e ∙ some.1)))))
-      (option_cases r),
+  λ h. e ∙ no_number names name h,
 )
 
 -- ---- names that are texts

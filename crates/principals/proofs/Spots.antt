@@ -1,16 +1,21 @@
 -- The places of tokens and of refusals are character boundaries of the text.
-use Rattle.std.proofs.Common.{ℕ, List, [], ◌∷◌, ◌++◌, sym, subst, ⊎_elim}
+use Rattle.std.proofs.Common.{◌≡◌, ℕ, Bool, true, false, List, [], ◌∷◌, ◌++◌, length, Option, None, Some, Result, Ok, Err, refl, sym, ◌∙◌, subst}
+use Rattle.std.specs.Prelude.{nat_le}
 use Rattle.std.specs.List.{AllByRecursion}
 use Rattle.std.specs.Str.{IsUtf8, IsCharBoundary}
 use Rattle.std.proofs.lemmas.List.Elements.{recursion_from_All}
 use Rattle.std.proofs.lemmas.Str.{IsCharBoundary-start}
+use Rattle.common.specs.Results.{along, ◌>>=◌}
+use Rattle.common.specs.declared.limits.TheConstants.{MAX_PRINCIPALS}
 use Rattle.lexer.specs.Cut.{IsCut}
 use Rattle.lexer.specs.Terminal.{Terminal}
 use Rattle.lexer.proofs.Listed.{listed, refused_at}
-use Rattle.principals.specs.HierarchyText.{Entry, Declares, Relates, Nonterminal, Derives, Finish, Declaration, PrincipalRelation, OneMore, Last, HasEntries, IsSyntaxRefusal, IsRefusedText, Long, Formless, Wrong, HasBoundary}
-use Rattle.principals.specs.Reading.{IsEntryRefusal, Twice, Crowded, UnknownLeft, UnknownRight, IsFirstRefusal}
-use Rattle.principals.specs.declared.fault.HierarchyRefusal.{HierarchyRefusal}
-use Rattle.principals.proofs.Total.{begins_first}
+use Rattle.principals.specs.ActsFor.{PrincipalHierarchy, number_of}
+use Rattle.principals.specs.HierarchyText.{Entry, Declares, Relates, Nonterminal, Derives, Finish, Declaration, PrincipalRelation, OneMore, Last, with_entry, HasEntries, IsRefusedText, Long, Tokenless, Formless, Wrong, IsUnexpectedInHierarchyAt, HasBoundary}
+use Rattle.principals.specs.Reading.{IsFirstRefusal}
+use Rattle.common.specs.declared.refusal.RefusalAt.{RefusalAt}
+use Rattle.principals.specs.declared.fault.HierarchyRefusalKind.{HierarchyRefusalKind}
+use Rattle.principals.proofs.Building.{declares, relates, same_Err, no_answer}
 
 -- ---- tokens
 
@@ -40,29 +45,51 @@ middle : {X : Type 0} (P : X → Type 0) (before after : List X) (x : X) → All
 middle P [] after x h = h.0
 middle P (b ∷ before) after x h = middle P before after x h.1
 
-refusal_spot : (text : List ℕ) (names : List (List ℕ)) (entry : Entry) (f : HierarchyRefusal) → EntryStartsIn text entry → IsEntryRefusal names entry f → HasBoundary text f
-refusal_spot text names entry f spot (Twice name h) = spot
-refusal_spot text names entry f spot (Crowded name h k) = spot
-refusal_spot text names entry f spot (UnknownLeft left right h) = spot.0
-refusal_spot text names entry f spot (UnknownRight left right h k) = spot.1
+-- of one entry, by the numbers of its names
+name_spot : (text : List ℕ) (h : PrincipalHierarchy) (name : Terminal) (f : RefusalAt HierarchyRefusalKind) → StartsIn text name → with_entry h (Declares name) ≡ Err f → HasBoundary text f
+name_spot text h name f spot stops = by (number_of h name.text) (nat_le MAX_PRINCIPALS (length h.names)) stops
+  where
+    by : (number : Option ℕ) (full : Bool) → declares h name number full ≡ Err f → HasBoundary text f
+    by (Some n) full e = subst (HasBoundary text) (same_Err _ f e) spot
+    by None true e = subst (HasBoundary text) (same_Err _ f e) spot
+    by None false e = no_answer _ f e
 
-wrong_spot : (text : List ℕ) (f : HierarchyRefusal) (es : List Entry) → IsUtf8 text → HasEntries text es → IsFirstRefusal es f → HasBoundary text f
+pair_spot : (text : List ℕ) (h : PrincipalHierarchy) (left right : Terminal) (f : RefusalAt HierarchyRefusalKind) → StartsIn text left → StartsIn text right
+    → with_entry h (Relates left right) ≡ Err f → HasBoundary text f
+pair_spot text h left right f first_spot second_spot stops = by (number_of h left.text) (number_of h right.text) stops
+  where
+    by : (first second : Option ℕ) → relates h left right first second ≡ Err f → HasBoundary text f
+    by None second e = subst (HasBoundary text) (same_Err _ f e) first_spot
+    by (Some a) None e = subst (HasBoundary text) (same_Err _ f e) second_spot
+    by (Some a) (Some b) e = no_answer _ f e
+
+entry_spot : (text : List ℕ) (h : PrincipalHierarchy) (entry : Entry) (f : RefusalAt HierarchyRefusalKind) → EntryStartsIn text entry → with_entry h entry ≡ Err f → HasBoundary text f
+entry_spot text h (Declares name) f spot stops = name_spot text h name f spot stops
+entry_spot text h (Relates left right) f spot stops = pair_spot text h left right f spot.0 spot.1 stops
+
+walk_spot : (text : List ℕ) (h : PrincipalHierarchy) (es : List Entry) (f : RefusalAt HierarchyRefusalKind) → AllByRecursion (EntryStartsIn text) es → along with_entry h es ≡ Err f → HasBoundary text f
+walk_spot text h [] f spots stops = no_answer h f stops
+walk_spot text h (entry ∷ es) f spots stops =
+    let on : (o : Result PrincipalHierarchy (RefusalAt HierarchyRefusalKind)) → with_entry h entry ≡ o → (o >>= λ next. along with_entry next es) ≡ Err f → HasBoundary text f =
+    λ o. elim o as (λ p. with_entry h entry ≡ p → (p >>= λ next. along with_entry next es) ≡ Err f → HasBoundary text f) [
+      | Ok next ↦ λ step e. walk_spot text next es f spots.1 e
+      | Err refusal ↦ λ step e. entry_spot text h entry f spots.0 (step ∙ e)
+    ] in
+    on (with_entry h entry) refl stops
+
+wrong_spot : (text : List ℕ) (f : RefusalAt HierarchyRefusalKind) (es : List Entry) → IsUtf8 text → HasEntries text es → IsFirstRefusal es f → HasBoundary text f
 wrong_spot text f es ok has_entries first =
-    refusal_spot text _ first.entry f
-    (middle (EntryStartsIn text) first.before first.after first.entry
-    (subst (AllByRecursion (EntryStartsIn text)) first.entries_are (entry_spots text has_entries.form (token_spots text has_entries.tokens ok has_entries.cut))))
-    first.refused
+    walk_spot text _ es f (entry_spots text has_entries.form (token_spots text has_entries.tokens ok has_entries.cut)) first
 
-syntax_spot : (text : List ℕ) (at : ℕ) → IsUtf8 text → IsSyntaxRefusal text at → IsCharBoundary text at
-syntax_spot text at ok s =
-    ⊎_elim
-    (λ l. subst (λ k. IsCharBoundary text k) (sym l.2) (refused_at text l.0 ok l.1))
-    (λ t. subst (λ k. IsCharBoundary text k) (sym t.2.place)
-    (middle (StartsIn text) t.2.before t.2.after t.2.token (subst (AllByRecursion (StartsIn text)) t.2.tokens_are (token_spots text t.0 ok t.1))))
-    s
+token_spot : (text : List ℕ) (tokens : List Terminal) (at : ℕ) → IsUtf8 text → IsCut text tokens → IsUnexpectedInHierarchyAt tokens at → IsCharBoundary text at
+token_spot text tokens at ok cut unexpected =
+    subst (λ k. IsCharBoundary text k) (sym unexpected.place)
+    (middle (StartsIn text) unexpected.before unexpected.after unexpected.token
+    (subst (AllByRecursion (StartsIn text)) unexpected.tokens_are (token_spots text tokens ok cut)))
 
 -- a refusal of a text stands at a boundary
-pub refused_spot : (text : List ℕ) → IsUtf8 text → (f : HierarchyRefusal) → IsRefusedText text f → HasBoundary text f
+pub refused_spot : (text : List ℕ) → IsUtf8 text → (f : RefusalAt HierarchyRefusalKind) → IsRefusedText text f → HasBoundary text f
 refused_spot text ok _ (Long long) = IsCharBoundary-start text ok
-refused_spot text ok _ (Formless at fits syntax) = syntax_spot text at ok syntax
-refused_spot text ok f (Wrong es _ others has_entries first) = wrong_spot text f es ok has_entries (begins_first es f others first)
+refused_spot text ok _ (Tokenless r fits refused) = refused_at text r ok refused
+refused_spot text ok _ (Formless tokens at fits cut unexpected) = token_spot text tokens at ok cut unexpected
+refused_spot text ok f (Wrong es _ has_entries first) = wrong_spot text f es ok has_entries first

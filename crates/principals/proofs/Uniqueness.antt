@@ -1,23 +1,21 @@
 -- A text has one hierarchy or one first refusal at most, and not both.
-use Rattle.std.proofs.Common.{◌≡◌, ◌⊎◌, ℕ, ◌<◌, ◌≤◌, List, [], ◌∷◌, ◌++◌, length, Some, refl, sym, ap, ◌∙◌, subst, inl, inr, ⊎_elim, append_assoc, arith}
-use Rattle.std.specs.Prelude.{slice_get, Result, Ok, Err, IfOk, IfErr}
+use Rattle.std.proofs.Common.{◌≡◌, ◌⊎◌, ℕ, ◌<◌, ◌≤◌, List, [], ◌∷◌, ◌++◌, length, refl, sym, ap, ◌∙◌, subst, inl, inr, ⊎_elim, append_assoc, arith}
+use Rattle.std.specs.Prelude.{Result, Ok, Err, IfOk, IfErr}
 use Rattle.common.specs.Answers.{Answers, IfRefused}
 use Rattle.common.specs.declared.fault.OrNoMemory.{OrNoMemory}
-use Rattle.common.proofs.Casting.{refused-weaker}
+use Rattle.common.proofs.Casting.{refusal-is, refused-weaker}
 use Rattle.lexer.specs.Cut.{IsCut, IsTextRefused}
-use Rattle.std.specs.List.{AllZip}
 use Rattle.std.proofs.lemmas.Option.{some_pair_parts}
 use Rattle.lexer.specs.Terminal.{Terminal}
-use Rattle.lexer.specs.declared.fault.LexRefusal.{LexRefusal}
+use Rattle.lexer.specs.declared.fault.LexRefusalKind.{LexRefusalKind}
 use Rattle.lexer.proofs.Cutting.{has_one_cut, not_cut_and_refused, has_one_refusal}
-use Rattle.principals.specs.ActsFor.{PrincipalHierarchy, HasName, IsHierarchy}
-use Rattle.principals.specs.HierarchyText.{Entry, all_faults, IsPrefixOfForm, IsUnexpectedInHierarchyAt, IsDescribedBy, written, HasEntries, IsHierarchyOf, IsSyntaxRefusal, IsRefusedText, Long, Formless, Wrong, refusal_for, refusal_of_lex}
-use Rattle.principals.specs.Reading.{Ended, IsFormRefusal, IsHierarchyForm, IsFirstRefusal}
-use Rattle.principals.specs.declared.fault.HierarchyRefusal.{HierarchyRefusal}
+use Rattle.principals.specs.ActsFor.{PrincipalHierarchy}
+use Rattle.principals.specs.HierarchyText.{Entry, built, IsPrefixOfForm, IsUnexpectedInHierarchyAt, HasEntries, IsHierarchyOf, IsRefusedText, Long, Tokenless, Formless, Wrong, refusal_for}
+use Rattle.principals.specs.Reading.{Ended, IsFormRefusal, IsHierarchyForm}
+use Rattle.common.specs.declared.refusal.RefusalAt.{RefusalAt}
+use Rattle.principals.specs.declared.fault.HierarchyRefusalKind.{HierarchyRefusalKind}
 use Rattle.principals.specs.declared.fault.HierarchyRefusalKind.TheVariants as kind
 use Rattle.principals.proofs.Automaton.{derived_is_read}
-use Rattle.principals.proofs.Faults.{first_begins}
-use Rattle.principals.proofs.Names.{one_number}
 use Rattle.common.specs.declared.limits.TheConstants.{MAX_TEXT}
 
 -- ---- two indices in one list
@@ -42,32 +40,14 @@ two_places (a ∷ xs) (b ∷ ys) us vs x y h =
 
 -- ---- entries
 
-first_once : (faults : List HierarchyRefusal) (f g : HierarchyRefusal) (fs gs : List HierarchyRefusal) → faults ≡ f ∷ fs → faults ≡ g ∷ gs → f ≡ g
-first_once faults f g fs gs a b = cc
+same_refusal : {X R : Type 0} (walked : Result X R) (f g : R) → walked ≡ Err f → walked ≡ Err g → f ≡ g
+same_refusal walked f g a b = cc
 
-some_fault : (faults : List HierarchyRefusal) (f : HierarchyRefusal) (fs : List HierarchyRefusal) → faults ≡ [] → faults ≡ f ∷ fs → ⊥
-some_fault faults f fs a b = cc
+not_both : {X R : Type 0} (walked : Result X R) (x : X) (f : R) → walked ≡ Ok x → walked ≡ Err f → ⊥
+not_both walked x f a b = cc
 
-same_pairs : (h : PrincipalHierarchy) → IsHierarchy h → (texts : List (List ℕ × List ℕ)) (pairs others : List (ℕ × ℕ)) →
-    AllZip (λ text pair. HasName h pair.0 text.0 × HasName h pair.1 text.1) texts pairs →
-    AllZip (λ text pair. HasName h pair.0 text.0 × HasName h pair.1 text.1) texts others → others ≡ pairs
-same_pairs h kept [] [] [] a b = refl
-same_pairs h kept [] [] (o ∷ others) a b = absurd b
-same_pairs h kept [] (p ∷ pairs) others a b = absurd a
-same_pairs h kept (t ∷ texts) [] others a b = absurd a
-same_pairs h kept (t ∷ texts) (p ∷ pairs) [] a b = absurd b
-same_pairs h kept (t ∷ texts) (p ∷ pairs) (o ∷ others) a b =
-    let left : o.0 ≡ p.0 = one_number h.names kept.different o.0 p.0 t.0 b.0.0 a.0.0 in
-    let right : o.1 ≡ p.1 = one_number h.names kept.different o.1 p.1 t.1 b.0.1 a.0.1 in
-    λ i. (left i, right i) ∷ same_pairs h kept texts pairs others a.1 b.1 i
-
-described_once : (es : List Entry) (h k : PrincipalHierarchy) → IsHierarchy h → IsDescribedBy es h → IsDescribedBy es k → h ≡ k
-described_once es h k kept a b =
-    let names : k.names ≡ h.names = b.names ∙ sym a.names in
-    let there : AllZip (λ text pair. HasName h pair.0 text.0 × HasName h pair.1 text.1) (written es) k.pairs =
-    subst (λ x. AllZip (λ text pair. (slice_get x pair.0 ≡ Some text.0) × (slice_get x pair.1 ≡ Some text.1)) (written es) k.pairs) names b.pairs in
-    let pairs : k.pairs ≡ h.pairs = same_pairs h kept (written es) h.pairs k.pairs a.pairs there in
-    λ i. record { names = sym names i; pairs = sym pairs i }
+same_end : {X R : Type 0} (walked : Result X R) (x y : X) → walked ≡ Ok x → walked ≡ Ok y → x ≡ y
+same_end walked x y a b = cc
 
 -- ---- the form
 
@@ -106,11 +86,17 @@ entries_once : (text : List ℕ) (es fs : List Entry) → HasEntries text es →
 entries_once text es fs a b =
     form_once a.tokens es fs a.form (subst (λ x. IsHierarchyForm x fs) (has_one_cut text b.tokens a.tokens b.cut a.cut) b.form)
 
+-- a text without tokens, or the first token with which no text of this form goes on
+abbrev IsSyntaxRefusal : List ℕ → ℕ → Type 0
+IsSyntaxRefusal text at =
+    ((refusal : RefusalAt LexRefusalKind) × IsTextRefused text refusal × (at ≡ refusal.at))
+    ⊎ ((tokens : List Terminal) × IsCut text tokens × IsUnexpectedInHierarchyAt tokens at)
+
 syntax_once : (text : List ℕ) (at other : ℕ) → IsSyntaxRefusal text at → IsSyntaxRefusal text other → at ≡ other
 syntax_once text at other a b =
     ⊎_elim
     (λ la. ⊎_elim
-    (λ lb. la.2 ∙ ap (λ (r : LexRefusal). r.at) (has_one_refusal text la.0 lb.0 la.1 lb.1) ∙ sym lb.2)
+    (λ lb. la.2 ∙ ap (λ (r : RefusalAt LexRefusalKind). r.at) (has_one_refusal text la.0 lb.0 la.1 lb.1) ∙ sym lb.2)
     (λ tb. absurd (not_cut_and_refused text tb.0 la.0 tb.1 la.1))
     b)
     (λ ta. ⊎_elim
@@ -129,52 +115,71 @@ entries_not_syntax text es at has_entries s =
 too_long : {P : Type 0} (text : List ℕ) → MAX_TEXT < length text → length text ≤ MAX_TEXT → P
 too_long text h k = absurd (omega arith)
 
-pub refused_text_once : (text : List ℕ) (f g : HierarchyRefusal) → IsRefusedText text f → IsRefusedText text g → f ≡ g
+-- the two refusals of the form of a text
+without_tokens : (text : List ℕ) (refusal : RefusalAt LexRefusalKind) → IsTextRefused text refusal → IsSyntaxRefusal text refusal.at
+without_tokens text refusal refused = inl (refusal, refused, refl)
+
+with_token : (text : List ℕ) (tokens : List Terminal) (at : ℕ) → IsCut text tokens → IsUnexpectedInHierarchyAt tokens at → IsSyntaxRefusal text at
+with_token text tokens at cut unexpected = inr (tokens, cut, unexpected)
+
+pub refused_text_once : (text : List ℕ) (f g : RefusalAt HierarchyRefusalKind) → IsRefusedText text f → IsRefusedText text g → f ≡ g
 refused_text_once text _ _ (Long long) (Long again) = refl
-refused_text_once text _ _ (Long long) (Formless at fits syntax) = too_long text long fits
-refused_text_once text _ g (Long long) (Wrong es _ more has_entries first) = too_long text long has_entries.fits
-refused_text_once text _ _ (Formless at fits syntax) (Long long) = too_long text long fits
-refused_text_once text _ _ (Formless at fits syntax) (Formless other again syntax_too) =
-    ap (λ x. refusal_for kind.Syntax x) (syntax_once text at other syntax syntax_too)
-refused_text_once text _ g (Formless at fits syntax) (Wrong es _ more has_entries first) = absurd (entries_not_syntax text es at has_entries syntax)
-refused_text_once text f _ (Wrong es _ more has_entries first) (Long long) = too_long text long has_entries.fits
-refused_text_once text f _ (Wrong es _ more has_entries first) (Formless at fits syntax) = absurd (entries_not_syntax text es at has_entries syntax)
-refused_text_once text f g (Wrong es _ more has_entries first) (Wrong others _ too has_too first_too) =
-    first_once (all_faults [] es) f g more too first (subst (λ x. all_faults [] x ≡ g ∷ too) (entries_once text others es has_too has_entries) first_too)
+refused_text_once text _ _ (Long long) (Tokenless r fits refused) = too_long text long fits
+refused_text_once text _ _ (Long long) (Formless tokens at fits cut unexpected) = too_long text long fits
+refused_text_once text _ g (Long long) (Wrong es _ has_entries first) = too_long text long has_entries.fits
+refused_text_once text _ _ (Tokenless r fits refused) (Long long) = too_long text long fits
+refused_text_once text _ _ (Tokenless r fits refused) (Tokenless other again too) =
+    ap (λ x. refusal_for kind.Syntax x) (syntax_once text r.at other.at (without_tokens text r refused) (without_tokens text other too))
+refused_text_once text _ _ (Tokenless r fits refused) (Formless tokens at again cut unexpected) =
+    ap (λ x. refusal_for kind.Syntax x) (syntax_once text r.at at (without_tokens text r refused) (with_token text tokens at cut unexpected))
+refused_text_once text _ g (Tokenless r fits refused) (Wrong es _ has_entries first) =
+    absurd (entries_not_syntax text es r.at has_entries (without_tokens text r refused))
+refused_text_once text _ _ (Formless tokens at fits cut unexpected) (Long long) = too_long text long fits
+refused_text_once text _ _ (Formless tokens at fits cut unexpected) (Tokenless other again too) =
+    ap (λ x. refusal_for kind.Syntax x) (syntax_once text at other.at (with_token text tokens at cut unexpected) (without_tokens text other too))
+refused_text_once text _ _ (Formless tokens at fits cut unexpected) (Formless others other again cut_too too) =
+    ap (λ x. refusal_for kind.Syntax x) (syntax_once text at other (with_token text tokens at cut unexpected) (with_token text others other cut_too too))
+refused_text_once text _ g (Formless tokens at fits cut unexpected) (Wrong es _ has_entries first) =
+    absurd (entries_not_syntax text es at has_entries (with_token text tokens at cut unexpected))
+refused_text_once text f _ (Wrong es _ has_entries first) (Long long) = too_long text long has_entries.fits
+refused_text_once text f _ (Wrong es _ has_entries first) (Tokenless r fits refused) =
+    absurd (entries_not_syntax text es r.at has_entries (without_tokens text r refused))
+refused_text_once text f _ (Wrong es _ has_entries first) (Formless tokens at fits cut unexpected) =
+    absurd (entries_not_syntax text es at has_entries (with_token text tokens at cut unexpected))
+refused_text_once text f g (Wrong es _ has_entries first) (Wrong others _ has_too first_too) =
+    same_refusal (built es) f g first (subst (λ x. built x ≡ Err g) (entries_once text others es has_too has_entries) first_too)
 
-pub hierarchy_not_refused : (text : List ℕ) (h : PrincipalHierarchy) (f : HierarchyRefusal) → IsHierarchyOf text h → IsRefusedText text f → ⊥
+pub hierarchy_not_refused : (text : List ℕ) (h : PrincipalHierarchy) (f : RefusalAt HierarchyRefusalKind) → IsHierarchyOf text h → IsRefusedText text f → ⊥
 hierarchy_not_refused text h _ of (Long long) = too_long text long of.has_entries.fits
-hierarchy_not_refused text h _ of (Formless at fits syntax) = entries_not_syntax text of.entries at of.has_entries syntax
-hierarchy_not_refused text h f of (Wrong es _ more has_entries first) =
-    some_fault (all_faults [] of.entries) f more of.described.accepted (subst (λ x. all_faults [] x ≡ f ∷ more) (entries_once text es of.entries has_entries of.has_entries) first)
+hierarchy_not_refused text h _ of (Tokenless r fits refused) = entries_not_syntax text of.entries r.at of.has_entries (without_tokens text r refused)
+hierarchy_not_refused text h _ of (Formless tokens at fits cut unexpected) =
+    entries_not_syntax text of.entries at of.has_entries (with_token text tokens at cut unexpected)
+hierarchy_not_refused text h f of (Wrong es _ has_entries first) =
+    not_both (built of.entries) h f of.described (subst (λ x. built x ≡ Err f) (entries_once text es of.entries has_entries of.has_entries) first)
 
-pub hierarchy_once : (text : List ℕ) (h k : PrincipalHierarchy) → IsHierarchy h → IsHierarchyOf text h → IsHierarchyOf text k → h ≡ k
-hierarchy_once text h k kept a b =
-    described_once a.entries h k kept a.described (subst (λ x. IsDescribedBy x k) (entries_once text b.entries a.entries b.has_entries a.has_entries) b.described)
+pub hierarchy_once : (text : List ℕ) (h k : PrincipalHierarchy) → IsHierarchyOf text h → IsHierarchyOf text k → h ≡ k
+hierarchy_once text h k a b =
+    same_end (built a.entries) h k a.described (subst (λ x. built x ≡ Ok k) (entries_once text b.entries a.entries b.has_entries a.has_entries) b.described)
 
 -- ---- what refused tokens are of the text
 
-pub tokens_refused : (text : List ℕ) (r : LexRefusal) (f : HierarchyRefusal) → length text ≤ MAX_TEXT → f ≡ refusal_of_lex r → IsTextRefused text r
+pub tokens_refused : (text : List ℕ) (r : RefusalAt LexRefusalKind) (f : RefusalAt HierarchyRefusalKind) → length text ≤ MAX_TEXT → (f.kind ≡ kind.Syntax) × (f.at ≡ r.at) → IsTextRefused text r
     → IsRefusedText text f
-tokens_refused text r f fits is refused = subst (IsRefusedText text) (sym is) (Formless r.at fits (inl (r, refused, refl)))
+tokens_refused text r f fits is refused = subst (IsRefusedText text) (sym (refusal-is f kind.Syntax r.at is.0 is.1)) (Tokenless r fits refused)
 
 -- and what an unexpected token is
-pub form_refused : (text : List ℕ) (tokens : List Terminal) (f : HierarchyRefusal) → length text ≤ MAX_TEXT → IsCut text tokens → IsFormRefusal tokens f
+pub form_refused : (text : List ℕ) (tokens : List Terminal) (f : RefusalAt HierarchyRefusalKind) → length text ≤ MAX_TEXT → IsCut text tokens → IsFormRefusal tokens f
     → IsRefusedText text f
-form_refused text tokens f fits cut (at, is, unexpected) = subst (IsRefusedText text) (sym is) (Formless at fits (inr (tokens, cut, unexpected)))
-
--- and what the first refusal of its entries is
-pub wrong_text : (text : List ℕ) (entries : List Entry) (f : HierarchyRefusal) → HasEntries text entries → IsFirstRefusal entries f → IsRefusedText text f
-wrong_text text entries f has_entries first = let begins = first_begins entries f first in Wrong entries f begins.0 has_entries begins.1
+form_refused text tokens f fits cut (at, is, unexpected) = subst (IsRefusedText text) (sym is) (Formless tokens at fits cut unexpected)
 
 -- ---- what a reader has to meet
 
-pub read_complete : (text : List ℕ) (h : PrincipalHierarchy) → IsHierarchyOf text h → (r : Result PrincipalHierarchy (OrNoMemory HierarchyRefusal)) →
-    IfOk r (IsHierarchyOf text) → IfOk r IsHierarchy → IfErr r (IfRefused (IsRefusedText text)) → Answers (λ found. found ≡ h) (λ _. ⊥) r
-read_complete text h of (Ok found) a b e = hierarchy_once text found h b a of
-read_complete text h of (Err f) a b e = refused-weaker (IsRefusedText text) (λ _. ⊥) (λ g k. hierarchy_not_refused text h g of k) f e
+pub read_complete : (text : List ℕ) (h : PrincipalHierarchy) → IsHierarchyOf text h → (r : Result PrincipalHierarchy (OrNoMemory (RefusalAt HierarchyRefusalKind))) →
+    IfOk r (IsHierarchyOf text) → IfErr r (IfRefused (IsRefusedText text)) → Answers (λ found. found ≡ h) (λ _. ⊥) r
+read_complete text h of (Ok found) a e = hierarchy_once text found h a of
+read_complete text h of (Err f) a e = refused-weaker (IsRefusedText text) (λ _. ⊥) (λ g k. hierarchy_not_refused text h g of k) f e
 
-pub read_first : (text : List ℕ) (f : HierarchyRefusal) → IsRefusedText text f → (r : Result PrincipalHierarchy (OrNoMemory HierarchyRefusal)) →
+pub read_first : (text : List ℕ) (f : RefusalAt HierarchyRefusalKind) → IsRefusedText text f → (r : Result PrincipalHierarchy (OrNoMemory (RefusalAt HierarchyRefusalKind))) →
     IfOk r (IsHierarchyOf text) → IfErr r (IfRefused (IsRefusedText text)) → Answers (λ _. ⊥) (λ found. found ≡ f) r
 read_first text f first (Ok found) a e = hierarchy_not_refused text found f a first
 read_first text f first (Err reported) a e = refused-weaker (IsRefusedText text) (λ g. g ≡ f) (λ g k. refused_text_once text g f k first) reported e

@@ -1,14 +1,14 @@
--- The text of a principal hierarchy: its form, what it declares and writes, and the first refusal in it. Our own.
-use Rattle.std.specs.Prelude.{◌≡◌, ◌≢◌, ◌⊎◌, ℕ, ◌<◌, ◌≤◌, nat_le, Bool, not, if◌then◌else◌, List, [], ◌∷◌, ◌++◌, length, codes, bytes_eq, IsCharBoundary}
+-- The text of a principal hierarchy: its form, the hierarchy that its entries build, and the first refusal in it. Our own.
+use Rattle.std.specs.Prelude.{◌≡◌, ◌≢◌, ℕ, ◌<◌, ◌≤◌, nat_le, is_some, if◌then◌else◌, List, [], ◌∷◌, ◌++◌, length, codes, ok_or, Result, Ok, Err, IsCharBoundary}
+use Rattle.common.specs.Results.{along, ◌>>=◌}
 use Rattle.common.specs.declared.limits.TheConstants.{MAX_PRINCIPALS, MAX_TEXT}
-use Rattle.std.specs.List.{AllZip, list_any}
 use Rattle.lexer.specs.Cut.{IsCut, IsTextRefused}
 use Rattle.lexer.specs.FirstFault.{AreRefusedAt}
 use Rattle.lexer.specs.Terminal.{Terminal}
-use Rattle.lexer.specs.declared.fault.LexRefusal.{LexRefusal}
+use Rattle.lexer.specs.declared.fault.LexRefusalKind.{LexRefusalKind}
 use Rattle.lexer.specs.declared.token.Kind.TheVariants.{Name, Comma, Semicolon, End}
-use Rattle.principals.specs.ActsFor.{PrincipalHierarchy, HasName}
-use Rattle.principals.specs.declared.fault.HierarchyRefusal.{HierarchyRefusal}
+use Rattle.principals.specs.ActsFor.{PrincipalHierarchy, number_of}
+use Rattle.common.specs.declared.refusal.RefusalAt.{RefusalAt}
 use Rattle.principals.specs.declared.fault.HierarchyRefusalKind.{HierarchyRefusalKind}
 use Rattle.principals.specs.declared.fault.HierarchyRefusalKind.TheVariants.{TooLong, Syntax, DeclaredTwice, TooManyPrincipals, UnknownPrincipal}
 
@@ -54,49 +54,26 @@ pub data Derives : Nonterminal → List Terminal → List Entry → Type 0 where
 abbrev pub IsPrefixOfForm : List Terminal → Type 0
 IsPrefixOfForm front = (more : List Terminal) × (entries : List Entry) × Derives Items (front ++ more) entries
 
--- ---- what the entries declare and write
-
--- the names that are declared, in order
-abbrev pub declared : List Entry → List (List ℕ)
-declared [] = []
-declared (Declares name ∷ entries) = name.text ∷ declared entries
-declared (Relates left right ∷ entries) = declared entries
-
--- the pairs of names that are written, in order
-abbrev pub written : List Entry → List (List ℕ × List ℕ)
-written [] = []
-written (Declares name ∷ entries) = written entries
-written (Relates left right ∷ entries) = (left.text, right.text) ∷ written entries
+-- ---- what the entries build
 
 -- the refusal of a kind at a byte
-abbrev pub refusal_for : HierarchyRefusalKind → (at : ℕ) → HierarchyRefusal
+abbrev pub refusal_for : HierarchyRefusalKind → (at : ℕ) → RefusalAt HierarchyRefusalKind
 refusal_for kind at = record { kind = kind; at = at }
 
--- whether a name is declared
-abbrev pub is_declared : List (List ℕ) → Terminal → Bool
-is_declared names name = list_any (bytes_eq name.text) names
+-- the hierarchy so far with one entry more, or what is wrong with the entry. A pair is written by the numbers of its names
+abbrev pub with_entry : PrincipalHierarchy → Entry → Result PrincipalHierarchy (RefusalAt HierarchyRefusalKind)
+with_entry so_far (Declares name) =
+    if is_some (number_of so_far name.text) then Err (refusal_for DeclaredTwice name.start)
+    else (if nat_le MAX_PRINCIPALS (length so_far.names) then Err (refusal_for TooManyPrincipals name.start)
+    else Ok (record so_far { names = so_far.names ++ name.text ∷ [] }))
+with_entry so_far (Relates left right) = do
+  a ← ok_or (number_of so_far left.text) (refusal_for UnknownPrincipal left.start)
+  b ← ok_or (number_of so_far right.text) (refusal_for UnknownPrincipal right.start)
+  Ok (record so_far { pairs = so_far.pairs ++ (a, b) ∷ [] })
 
--- a refusal at a token, if the test holds
-abbrev pub refused_if : Bool → HierarchyRefusalKind → Terminal → List HierarchyRefusal
-refused_if test kind token = if test then refusal_for kind token.start ∷ [] else []
-
--- what is wrong with an entry, where these names are declared before it
-abbrev pub entry_faults : List (List ℕ) → Entry → List HierarchyRefusal
-entry_faults names (Declares name) =
-    refused_if (is_declared names name) DeclaredTwice name ++ refused_if (nat_le MAX_PRINCIPALS (length names)) TooManyPrincipals name
-entry_faults names (Relates left right) =
-    refused_if (not (is_declared names left)) UnknownPrincipal left ++ refused_if (not (is_declared names right)) UnknownPrincipal right
-
--- what is wrong with entries, in order
-abbrev pub all_faults : List (List ℕ) → List Entry → List HierarchyRefusal
-all_faults names [] = []
-all_faults names (entry ∷ entries) = entry_faults names entry ++ all_faults (names ++ declared (entry ∷ [])) entries
-
--- the hierarchy that the entries describe: its names are the declared ones, and its pairs are the numbers of the written ones
-pub record IsDescribedBy (entries : List Entry) (hierarchy : PrincipalHierarchy) : Type 0 where
-  pub accepted : all_faults [] entries ≡ []
-  pub names : hierarchy.names ≡ declared entries
-  pub pairs : AllZip (λ names pair. HasName hierarchy pair.0 names.0 × HasName hierarchy pair.1 names.1) (written entries) hierarchy.pairs
+-- the hierarchy of entries, which are added one after another, or the first thing that is wrong with them
+abbrev pub built : List Entry → Result PrincipalHierarchy (RefusalAt HierarchyRefusalKind)
+built entries = along with_entry (record { names = []; pairs = [] }) entries
 
 -- ---- the whole text
 
@@ -111,29 +88,22 @@ pub record HasEntries (text : List ℕ) (entries : List Entry) : Type 0 where
 pub record IsHierarchyOf (text : List ℕ) (hierarchy : PrincipalHierarchy) : Type 0 where
   pub entries : List Entry
   pub has_entries : HasEntries text entries
-  pub described : IsDescribedBy entries hierarchy
+  pub described : built entries ≡ Ok hierarchy
 
--- the refusal of a text whose tokens are refused
-abbrev pub refusal_of_lex : LexRefusal → HierarchyRefusal
-refusal_of_lex refusal = refusal_for Syntax refusal.at
-
--- a text without tokens, or the first token with which no text of this form goes on
-abbrev pub IsSyntaxRefusal : List ℕ → ℕ → Type 0
-IsSyntaxRefusal text at =
-    ((refusal : LexRefusal) × IsTextRefused text refusal × (at ≡ refusal.at))
-    ⊎ ((tokens : List Terminal) × IsCut text tokens × AreRefusedAt IsPrefixOfForm (λ front. ¬ IsPrefixOfForm front) tokens at)
-
--- the first refusal of a text: that it is too long, that it is not of this form, or the first thing that is wrong with its entries
-pub data IsRefusedText (text : List ℕ) : HierarchyRefusal → Type 0 where
+-- the first refusal of a text: that it is too long, that its tokens are refused, that one of them is such that no text of this form
+-- goes on with it, or the first thing that is wrong with its entries
+pub data IsRefusedText (text : List ℕ) : RefusalAt HierarchyRefusalKind → Type 0 where
   Long : MAX_TEXT < length text → IsRefusedText text (refusal_for TooLong 0)
-  Formless : (at : ℕ) → length text ≤ MAX_TEXT → IsSyntaxRefusal text at → IsRefusedText text (refusal_for Syntax at)
-  Wrong : (entries : List Entry) (refusal : HierarchyRefusal) (others : List HierarchyRefusal) → HasEntries text entries
-      → all_faults [] entries ≡ refusal ∷ others → IsRefusedText text refusal
+  Tokenless : (refusal : RefusalAt LexRefusalKind) → length text ≤ MAX_TEXT → IsTextRefused text refusal → IsRefusedText text (refusal_for Syntax refusal.at)
+  Formless : (tokens : List Terminal) (at : ℕ) → length text ≤ MAX_TEXT → IsCut text tokens
+      → AreRefusedAt IsPrefixOfForm (λ front. ¬ IsPrefixOfForm front) tokens at → IsRefusedText text (refusal_for Syntax at)
+  Wrong : (entries : List Entry) (refusal : RefusalAt HierarchyRefusalKind) → HasEntries text entries → built entries ≡ Err refusal
+      → IsRefusedText text refusal
 
 -- the first token with which no text of this form goes on begins at a byte
 abbrev pub IsUnexpectedInHierarchyAt : List Terminal → ℕ → Type 0
 IsUnexpectedInHierarchyAt tokens at = AreRefusedAt IsPrefixOfForm (λ front. ¬ IsPrefixOfForm front) tokens at
 
 -- the place of a refusal is a character boundary of the text, so that its line and its column can be found
-abbrev pub HasBoundary : List ℕ → HierarchyRefusal → Type 0
+abbrev pub HasBoundary : List ℕ → RefusalAt HierarchyRefusalKind → Type 0
 HasBoundary text refusal = IsCharBoundary text refusal.at

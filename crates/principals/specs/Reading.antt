@@ -1,14 +1,14 @@
 -- A text of a hierarchy, read one token after another. No public contract cites this file. Our own.
-use Rattle.std.specs.Prelude.{◌≡◌, ℕ, ◌≤◌, length, slice_get, List, [], ◌∷◌, ◌++◌, Option, None, Some, if◌then◌else◌, bytes_eq, codes, option_map, map, Contains}
+use Rattle.std.specs.Prelude.{◌≡◌, ℕ, ◌≤◌, length, List, [], ◌∷◌, ◌++◌, Option, None, Some, Ok, Err, if◌then◌else◌, bytes_eq, codes, option_map, map, Contains}
 use Rattle.common.specs.declared.limits.TheConstants.{MAX_PRINCIPALS}
-use Rattle.std.specs.List.{AllZip}
-use Rattle.principals.specs.ActsFor.{AllDifferent, AllBelow}
+use Rattle.principals.specs.ActsFor.{PrincipalHierarchy}
 use Rattle.std.specs.Option.{option_and_then}
 use Rattle.lexer.specs.Terminal.{Terminal, terminal_of}
 use Rattle.lexer.specs.declared.token.Kind.{Kind}
 use Rattle.lexer.specs.declared.token.Kind.TheVariants.{Name as NameKind, Comma as CommaKind, Semicolon as SemicolonKind, End as EndKind}
-use Rattle.principals.specs.HierarchyText.{Entry, Declares, Relates, Derives, Items, IsUnexpectedInHierarchyAt, declared, written, refusal_for}
-use Rattle.principals.specs.declared.fault.HierarchyRefusal.{HierarchyRefusal}
+use Rattle.principals.specs.HierarchyText.{Entry, Declares, Relates, Derives, Items, IsUnexpectedInHierarchyAt, built, refusal_for}
+use Rattle.common.specs.declared.refusal.RefusalAt.{RefusalAt}
+use Rattle.principals.specs.declared.fault.HierarchyRefusalKind.{HierarchyRefusalKind}
 use Rattle.principals.specs.declared.fault.HierarchyRefusalKind.TheVariants.{Syntax, DeclaredTwice, TooManyPrincipals, UnknownPrincipal}
 use Rattle.principals.specs.declared.reading.TokenRole.{TokenRole}
 use Rattle.principals.specs.declared.reading.TokenRole.TheVariants.{Principal, ActsFor, Name, Comma, Semicolon, End, Other}
@@ -88,8 +88,14 @@ entries_of statements = map entry_of statements
 abbrev pub IsHierarchyForm : List Terminal → List Entry → Type 0
 IsHierarchyForm tokens entries = Derives Items tokens entries
 
+-- the names that are declared, in order
+abbrev pub declared : List Entry → List (List ℕ)
+declared [] = []
+declared (Declares name ∷ entries) = name.text ∷ declared entries
+declared (Relates left right ∷ entries) = declared entries
+
 -- an entry is refused, where these names are declared before it; of two refusals of one entry the first is reported
-pub data IsEntryRefusal (names : List (List ℕ)) : Entry → HierarchyRefusal → Type 0 where
+pub data IsEntryRefusal (names : List (List ℕ)) : Entry → RefusalAt HierarchyRefusalKind → Type 0 where
   Twice : (name : Terminal) → Contains names name.text → IsEntryRefusal names (Declares name) (refusal_for DeclaredTwice name.start)
   Crowded : (name : Terminal) → (Contains names name.text → ⊥) → MAX_PRINCIPALS ≤ length names
       → IsEntryRefusal names (Declares name) (refusal_for TooManyPrincipals name.start)
@@ -98,36 +104,14 @@ pub data IsEntryRefusal (names : List (List ℕ)) : Entry → HierarchyRefusal �
   UnknownRight : (left right : Terminal) → Contains names left.text → (Contains names right.text → ⊥)
       → IsEntryRefusal names (Relates left right) (refusal_for UnknownPrincipal right.start)
 
--- no entry is refused, where these names are declared before the first
-abbrev pub AllAcceptedAfter : List (List ℕ) → List Entry → Type 0
-AllAcceptedAfter names entries = (before after : List Entry) (entry : Entry) (refusal : HierarchyRefusal)
-    → entries ≡ before ++ entry ∷ after → IsEntryRefusal (names ++ declared before) entry refusal → ⊥
-
-abbrev pub AllAccepted : List Entry → Type 0
-AllAccepted entries = AllAcceptedAfter [] entries
-
--- the first entry that is refused, and why
-pub record IsFirstRefusal (entries : List Entry) (refusal : HierarchyRefusal) : Type 0 where
-  pub before : List Entry
-  pub entry : Entry
-  pub after : List Entry
-  pub entries_are : entries ≡ before ++ entry ∷ after
-  pub accepted : AllAccepted before
-  pub refused : IsEntryRefusal (declared before) entry refusal
-
 -- the refusal of the form alone: the first token with which no text of this form goes on
-abbrev pub IsFormRefusal : List Terminal → HierarchyRefusal → Type 0
+abbrev pub IsFormRefusal : List Terminal → RefusalAt HierarchyRefusalKind → Type 0
 IsFormRefusal tokens refusal = (at : ℕ) × (refusal ≡ refusal_for Syntax at) × IsUnexpectedInHierarchyAt tokens at
 
--- the pairs are the numbers of these pairs of names
-abbrev pub HaveNames : List (List ℕ) → List (List ℕ × List ℕ) → List (ℕ × ℕ) → Type 0
-HaveNames names texts pairs = AllZip (λ text pair. (slice_get names pair.0 ≡ Some text.0) × (slice_get names pair.1 ≡ Some text.1)) texts pairs
+-- the entries build this hierarchy
+abbrev pub IsBuilt : List Entry → PrincipalHierarchy → Type 0
+IsBuilt entries hierarchy = built entries ≡ Ok hierarchy
 
--- the names and the pairs of the hierarchy that entries describe, which are all accepted
-pub record IsHierarchyOfEntries (entries : List Entry) (names : List (List ℕ)) (pairs : List (ℕ × ℕ)) : Type 0 where
-  pub same_names : names ≡ declared entries
-  pub few : length names ≤ MAX_PRINCIPALS
-  pub different : AllDifferent names
-  pub there : AllBelow (length names) pairs
-  pub accepted : AllAccepted entries
-  pub same_pairs : HaveNames names (written entries) pairs
+-- and this is the first thing that is wrong with them
+abbrev pub IsFirstRefusal : List Entry → RefusalAt HierarchyRefusalKind → Type 0
+IsFirstRefusal entries refusal = built entries ≡ Err refusal

@@ -3,9 +3,9 @@
 ghost use Rattle.common.specs.Answers.{IfRefused};
 ghost use Rattle.lexer.specs.Terminal.{terminal_of};
 ghost use Rattle.principals.specs.ActsFor.{IsHierarchy};
-ghost use Rattle.principals.specs.HierarchyText.{Declares, IsDescribedBy, Relates, declared, refusal_for};
+ghost use Rattle.principals.specs.HierarchyText.{Declares, Relates, refusal_for};
 ghost use Rattle.principals.specs.Named.{IsKeptName};
-ghost use Rattle.principals.specs.Reading.{entries_of, IsEntryRefusal, IsFirstRefusal};
+ghost use Rattle.principals.specs.Reading.{declared, entries_of, IsBuilt, IsEntryRefusal, IsFirstRefusal};
 ghost use Rattle.principals.specs.Table.{names_of};
 ghost use Rattle.principals.specs.declared.fault.HierarchyRefusalKind.TheVariants.{UnknownPrincipal};
 ghost use Rattle.std.specs.Prelude.{All, Contains, IfErr, IfOk, OnOk, Some, [], ◌∷◌, ◌++◌, length, slice_get, ◌<◌, ◌≡◌, ◌≤◌};
@@ -85,7 +85,7 @@ pub(crate) fn hierarchy_of(
     statements: &[HierarchyStatement<'_>],
 ) -> Result<Hierarchy, HierFault>
     requires { All IsKeptName (declared (entries_of statements.now)) }
-    ensures described { IfOk result (IsDescribedBy (entries_of statements.now)) }
+    ensures described { IfOk result (IsBuilt (entries_of statements.now)) }
     ensures kept { IfOk result IsHierarchy }
     ensures first_fault { IfErr result (IfRefused (IsFirstRefusal (entries_of statements.now))) }
 {

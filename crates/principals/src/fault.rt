@@ -1,11 +1,8 @@
-ghost use Rattle.principals.specs.RefusalKinds.{hierarchy_message};
-ghost use Rattle.principals.specs.HierarchyText.{refusal_of_lex};
-ghost use Rattle.std.specs.Prelude.{◌≡◌, Some};
+ghost use Rattle.principals.specs.declared.fault.HierarchyRefusalKind.TheVariants.{Syntax};
+ghost use Rattle.std.specs.Prelude.{◌≡◌};
 
-use common::{Message, OrNoMemory, Reported};
-use lexer::LexRefusal;
-use std::error::Error;
-use std::fmt;
+use common::{OrNoMemory, RefusalAt};
+use lexer::LexRefusalKind;
 
 /// What is wrong with a text that has no hierarchy.
 #[derive(Clone, Copy, Debug, Drop, PartialEq, Eq)]
@@ -22,48 +19,17 @@ pub enum HierarchyRefusalKind {
     TooManyPrincipals,
 }
 
-impl Reported for HierarchyRefusalKind {
-    ghost contents = { hierarchy_message };
-
-    fn message(&self) -> Message {
-        match self {
-            HierarchyRefusalKind::TooLong => Message::new(701, "text too long"),
-            HierarchyRefusalKind::Syntax => Message::new(151, "syntax"),
-            HierarchyRefusalKind::DeclaredTwice => Message::new(152, "declared twice"),
-            HierarchyRefusalKind::UnknownPrincipal => Message::new(153, "unknown principal"),
-            HierarchyRefusalKind::TooManyPrincipals => Message::new(154, "too many principals"),
-        }
-    }
-}
-
 /// Why a text has no hierarchy: what is wrong, and the byte at which it stands. A text that is too long is refused at its first
 /// byte.
-#[derive(Clone, Copy, Debug, Drop, PartialEq, Eq)]
-pub struct HierarchyRefusal {
-    pub kind: HierarchyRefusalKind,
-    pub at: usize,
-}
-
-impl fmt::Display for HierarchyRefusal {
-    ghost output = { λ refusal. Some (hierarchy_message refusal.kind).words };
-
-    fn fmt<W: fmt::Write>(&self, f: &mut fmt::Formatter<W>) -> fmt::Result {
-        write!(f, "{}", self.kind.words())
-    }
-}
-
-impl Error for HierarchyRefusal {}
+pub type HierarchyRefusal = RefusalAt<HierarchyRefusalKind>;
 
 /// Why a text gave no hierarchy.
 pub type HierFault = OrNoMemory<HierarchyRefusal>;
 
-impl From<LexRefusal> for HierarchyRefusal {
-    ghost from_gives = { λ lex refusal. refusal ≡ refusal_of_lex lex };
+impl From<LexRefusalKind> for HierarchyRefusalKind {
+    ghost from_gives = { λ _ kind. kind ≡ Syntax };
 
-    fn from(refused: LexRefusal) -> HierarchyRefusal {
-        HierarchyRefusal {
-            kind: HierarchyRefusalKind::Syntax,
-            at: refused.at,
-        }
+    fn from(_refused: LexRefusalKind) -> HierarchyRefusalKind {
+        HierarchyRefusalKind::Syntax
     }
 }

@@ -10,6 +10,7 @@ mod contained;
 mod declaring;
 pub mod fault;
 pub mod laws;
+mod message;
 mod principal_set;
 mod read;
 mod reading;

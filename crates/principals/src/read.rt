@@ -1,9 +1,10 @@
 //! A hierarchy out of its text.
 
 ghost use Rattle.common.specs.Answers.{Answers, IfRefused};
+ghost use Rattle.common.specs.declared.refusal.RefusalAt.{RefusalAt};
 ghost use Rattle.principals.specs.ActsFor.{IsHierarchy, PrincipalHierarchy};
 ghost use Rattle.principals.specs.HierarchyText.{HasBoundary, IsHierarchyOf, IsRefusedText};
-ghost use Rattle.principals.specs.declared.fault.HierarchyRefusal.{HierarchyRefusal};
+ghost use Rattle.principals.specs.declared.fault.HierarchyRefusalKind.{HierarchyRefusalKind};
 ghost use Rattle.std.specs.Prelude.{IfErr, IfOk, ◌≡◌};
 
 use crate::Hierarchy;
@@ -29,7 +30,8 @@ impl Hierarchy {
 
         // A refusal is the first of the text, and no text with a refusal is read.
         ensures first_fault { IfErr result (IfRefused (IsRefusedText text.now)) }
-        ensures refuses { (refusal : HierarchyRefusal) → IsRefusedText text.now refusal →
+        ensures refuses { (refusal : RefusalAt HierarchyRefusalKind) →
+            IsRefusedText text.now refusal →
             Answers (λ _. ⊥) (λ found. found ≡ refusal) result }
 
         // The line and the column of a refusal can be found.
@@ -49,7 +51,7 @@ fn read_text(alloc: Global, text: &str) -> Result<Hierarchy, HierFault>
         let kind = HierarchyRefusalKind::TooLong;
         return Err(OrNoMemory::Refused(HierarchyRefusal { kind, at: 0 }));
     }
-    let tokens = lex(alloc, text).map_err(OrNoMemory::cast)?;
+    let tokens = lex(alloc, text).map_err(OrNoMemory::cast_kind)?;
     let statements = read_statements(alloc, tokens.as_slice())?;
     hierarchy_of(alloc, statements.as_slice())
 }

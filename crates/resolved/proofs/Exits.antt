@@ -11,7 +11,7 @@ use Rattle.resolved.specs.FaultParts.{place_of, may_stand, inner_faults}
 use Rattle.resolved.specs.Tree.{Statement, Assign, Clear, Store, Receive, Send, Call, If, While, Leave, ReturnWith, Try, Nested, Block}
 use Rattle.resolved.specs.Tree as tree
 use Rattle.resolved.specs.Program.{Program, ThrownEntry}
-use Rattle.resolved.specs.declared.fault.ExitRefusal.{ExitRefusal}
+use Rattle.common.specs.declared.refusal.RefusalAt.{RefusalAt}
 use Rattle.resolved.specs.declared.fault.ExitRefusalKind.TheVariants as kind
 use Rattle.resolved.specs.declared.fault.ExitRefusalKind.{ExitRefusalKind}
 use Rattle.resolved.specs.Labelled.{thrown_label}
@@ -90,16 +90,16 @@ thrown_label-first entry rest exception = go (exception == entry.exception) refl
 
 -- the faults of a block, with those of its first statement in parts
 module _ (program : Program) (in_loop reached : Bool) (rest : Block) where
-  abbrev unreached : ℕ → List ExitRefusal
+  abbrev unreached : ℕ → List (RefusalAt ExitRefusalKind)
   unreached at = fault_unless reached kind.Unreachable at
 
-  abbrev parts : Statement → List ExitRefusal
+  abbrev parts : Statement → List (RefusalAt ExitRefusalKind)
   parts s = fault_unless (may_stand in_loop s) kind.OutsideLoop (place_of s) ++ unreached (place_of s) ++ inner_faults program in_loop s
 
-  abbrev later : Statement → List ExitRefusal
+  abbrev later : Statement → List (RefusalAt ExitRefusalKind)
   later s = block_faults program in_loop (has_exit (statement_exits program s) Normal) rest
 
-  alone : (s : Statement) (own : List ExitRefusal) → own ++ later s ≡ (own ++ []) ++ later s
+  alone : (s : Statement) (own : List (RefusalAt ExitRefusalKind)) → own ++ later s ≡ (own ++ []) ++ later s
   alone s own = ap (λ xs. xs ++ later s) (sym (append-nil own))
 
   pub faults-in_parts : (s : Statement) → block_faults program in_loop reached (tree.Then s rest) ≡ parts s ++ later s

@@ -3,16 +3,14 @@
 use Rattle.std.specs.Prelude.{Bool, true, false, Some, None, ◌||◌}
 use Rattle.std.specs.List.{list_any}
 use Rattle.resolved.specs.declared.expression.Operator.{Operator}
-use Rattle.resolved.specs.declared.expression.Operator.TheVariants.{Compute, Divide, Bits, Compare, Match}
+use Rattle.resolved.specs.declared.expression.Operator.TheVariants.{Compute}
+use Rattle.common.specs.declared.operator.Arithmetic.TheVariants.{Bits}
 use Rattle.resolved.specs.Tree.{Expression, Integer, Logical, Read, Element, Unary, Binary, Short, Statement, Assign, Clear, Store, Receive, Send, Call, If, While, Leave, ReturnWith, Try, Nested, Block, Empty, Then, Handlers, NoMore, Catch}
 use Rattle.resolved.specs.Program.{Program, ProcedureEntry}
 
 abbrev pub is_bit_operator : Operator → Bool
-is_bit_operator (Compute computation) = false
-is_bit_operator (Divide division) = false
-is_bit_operator (Bits operator) = true
-is_bit_operator (Compare relation) = false
-is_bit_operator (Match sameness) = false
+is_bit_operator (Compute (Bits operator)) = true
+is_bit_operator other = false
 
 -- whether one is in an expression, a statement, a block or handlers
 abbrev pub expression_uses_bits : Expression → Bool

@@ -4,7 +4,7 @@ use Rattle.std.specs.Prelude.{ℕ, List, [], ◌∷◌, ◌++◌, Bool, true, fa
 use Rattle.std.specs.List.{list_all}
 use Rattle.resolved.specs.declared.fault.ExitRefusalKind.{ExitRefusalKind}
 use Rattle.resolved.specs.declared.fault.ExitRefusalKind.TheVariants.{OutsideLoop, Unreachable, NeverRaised, NoValueReturned, Undeclared}
-use Rattle.resolved.specs.declared.fault.ExitRefusal.{ExitRefusal}
+use Rattle.common.specs.declared.refusal.RefusalAt.{RefusalAt}
 use Rattle.resolved.specs.declared.statement.Exit.{Exit}
 use Rattle.resolved.specs.declared.statement.Exit.TheVariants.{Normal, Return, Break, Continue, Throw}
 use Rattle.resolved.specs.Tree.{Statement, Assign, Clear, Store, Receive, Send, Call, If, While, Leave, ReturnWith, Try, Nested, Block, Empty, Then, Handlers, NoMore, Catch}
@@ -12,13 +12,13 @@ use Rattle.resolved.specs.Program.{Program, ProcedureEntry}
 use Rattle.resolved.specs.Exits.{same_exit, has_exit, thrown_exits, declared_by, statement_exits, block_exits}
 
 -- a fault, unless a test holds
-abbrev pub fault_unless : Bool → ExitRefusalKind → (at : ℕ) → List ExitRefusal
+abbrev pub fault_unless : Bool → ExitRefusalKind → (at : ℕ) → List (RefusalAt ExitRefusalKind)
 fault_unless test kind at = if test then [] else (record { kind = kind; at = at } ∷ [])
 
 -- the faults of statements, blocks and handlers. A statement is reached where the one before it can end normally; `break` and
 -- `continue` stand in a loop; the exits are those that the handlers before have not taken
 abbrev mutual
-  pub statement_faults : Program → (in_loop reached : Bool) → Statement → List ExitRefusal
+  pub statement_faults : Program → (in_loop reached : Bool) → Statement → List (RefusalAt ExitRefusalKind)
   statement_faults program in_loop reached (Assign at x e) = fault_unless reached Unreachable at
   statement_faults program in_loop reached (Clear at slot) = fault_unless reached Unreachable at
   statement_faults program in_loop reached (Store at array length index e) = fault_unless reached Unreachable at
@@ -39,13 +39,13 @@ abbrev mutual
   statement_faults program in_loop reached (Nested at block) =
       fault_unless reached Unreachable at ++ block_faults program in_loop true block
 
-  pub block_faults : Program → (in_loop reached : Bool) → Block → List ExitRefusal
+  pub block_faults : Program → (in_loop reached : Bool) → Block → List (RefusalAt ExitRefusalKind)
   block_faults program in_loop reached Empty = []
   block_faults program in_loop reached (Then statement rest) =
       statement_faults program in_loop reached statement
       ++ block_faults program in_loop (has_exit (statement_exits program statement) Normal) rest
 
-  pub handlers_faults : Program → (in_loop : Bool) → (exits : List Exit) → Handlers → List ExitRefusal
+  pub handlers_faults : Program → (in_loop : Bool) → (exits : List Exit) → Handlers → List (RefusalAt ExitRefusalKind)
   handlers_faults program in_loop exits NoMore = []
   handlers_faults program in_loop exits (Catch at handled body rest) =
       fault_unless (has_exit exits (Throw handled)) NeverRaised at
@@ -54,7 +54,7 @@ abbrev mutual
 
 -- the faults of a procedure: those of its body and then those of its own exits, which stand at its name. It ends normally, by a
 -- return or by an exception that it declares
-abbrev pub procedure_faults : Program → ProcedureEntry → List ExitRefusal
+abbrev pub procedure_faults : Program → ProcedureEntry → List (RefusalAt ExitRefusalKind)
 procedure_faults program procedure =
     let exits : List Exit = block_exits program procedure.body in
     block_faults program false true procedure.body
@@ -62,5 +62,5 @@ procedure_faults program procedure =
     ++ fault_unless (list_all (has_exit (Normal ∷ Return ∷ thrown_exits (declared_by procedure.throws))) exits) Undeclared procedure.at
 
 -- all faults of a program's exits; the first is the one that is reported
-abbrev pub exit_faults : Program → List ExitRefusal
+abbrev pub exit_faults : Program → List (RefusalAt ExitRefusalKind)
 exit_faults program = flat_map (procedure_faults program) program.procedures

@@ -2,9 +2,10 @@
 -- Source: our own rules; several exits of a statement as in JFlow (Myers 1999).
 use Rattle.std.specs.Prelude.{ℕ, List, [], ◌∷◌, ◌++◌, Bool, true, false, not, map, flat_map, filter, ◌==◌, ◌||◌, if◌then◌else◌, Some, None}
 use Rattle.std.specs.List.{list_any, list_all}
-use Rattle.resolved.specs.declared.expression.Prefix.TheVariants.{Negate}
+use Rattle.common.specs.declared.operator.Prefix.TheVariants.{Negate}
 use Rattle.resolved.specs.declared.expression.Operator.{Operator}
-use Rattle.resolved.specs.declared.expression.Operator.TheVariants.{Compute, Divide, Bits, Compare, Match}
+use Rattle.resolved.specs.declared.expression.Operator.TheVariants.{Compute}
+use Rattle.common.specs.declared.operator.Arithmetic.TheVariants.{Divide, Remainder}
 use Rattle.resolved.specs.declared.statement.Exit.{Exit}
 use Rattle.resolved.specs.declared.statement.Exit.TheVariants.{Normal, Return, Break, Continue, Throw}
 use Rattle.resolved.specs.contracts.statement.ExitPartialEq.TheImpl.{eq-value}
@@ -40,11 +41,9 @@ divisor_can_raise other = true
 
 -- whether an operator divides
 abbrev pub is_division : Operator → Bool
-is_division (Compute computation) = false
-is_division (Divide division) = true
-is_division (Bits operator) = false
-is_division (Compare relation) = false
-is_division (Match sameness) = false
+is_division (Compute Divide) = true
+is_division (Compute Remainder) = true
+is_division other = false
 
 -- the exceptions of an access with this index
 abbrev pub index_raises : Expression → (length : ℕ) → List ℕ

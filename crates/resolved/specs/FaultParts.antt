@@ -2,7 +2,8 @@
 -- not stand in a loop, that it is not reached, and what is wrong with the blocks in it; and how a procedure may end.
 -- Source: our own.
 use Rattle.std.specs.Prelude.{ℕ, List, [], ◌∷◌, ◌++◌, Bool, true, not, ◌||◌}
-use Rattle.resolved.specs.declared.fault.ExitRefusal.{ExitRefusal}
+use Rattle.common.specs.declared.refusal.RefusalAt.{RefusalAt}
+use Rattle.resolved.specs.declared.fault.ExitRefusalKind.{ExitRefusalKind}
 use Rattle.resolved.specs.declared.statement.Exit.{Exit}
 use Rattle.resolved.specs.declared.statement.Exit.TheVariants.{Normal, Return, Break, Continue}
 use Rattle.resolved.specs.Tree.{Statement, Assign, Clear, Store, Receive, Send, Call, If, While, Leave, ReturnWith, Try, Nested}
@@ -35,7 +36,7 @@ abbrev pub may_exit : ProcedureEntry → Exit → Bool
 may_exit procedure exit = has_exit (Normal ∷ Return ∷ thrown_exits (declared_by procedure.throws)) exit
 
 -- what is wrong with the blocks in a statement
-abbrev pub inner_faults : Program → (in_loop : Bool) → Statement → List ExitRefusal
+abbrev pub inner_faults : Program → (in_loop : Bool) → Statement → List (RefusalAt ExitRefusalKind)
 inner_faults program in_loop (Assign at x e) = []
 inner_faults program in_loop (Clear at slot) = []
 inner_faults program in_loop (Store at array length index e) = []

@@ -5,10 +5,12 @@
 use Rattle.std.specs.Prelude.{◌≡◌, ℕ, List, [], ◌∷◌, Some, None, IsTrue}
 use Rattle.labels.specs.Label.{Label}
 use Rattle.common.specs.declared.base_type.BaseType.TheVariants.{Int, Boolean}
-use Rattle.resolved.specs.declared.expression.Connective.TheVariants.{And}
-use Rattle.resolved.specs.declared.expression.Operator.TheVariants.{Divide, Compare}
-use Rattle.resolved.specs.declared.expression.Division.TheVariants.{Quotient}
-use Rattle.resolved.specs.declared.expression.Relation.TheVariants.{LessThan, GreaterThan, Equal}
+use Rattle.common.specs.declared.operator.Connective.TheVariants.{And}
+use Rattle.resolved.specs.declared.expression.Operator.TheVariants.{Compute, Compare}
+use Rattle.common.specs.declared.operator.Arithmetic.TheVariants.{Divide}
+use Rattle.common.specs.declared.operator.Comparison.TheVariants.{Ordered, Matched}
+use Rattle.common.specs.declared.operator.Order.TheVariants.{LessThan, GreaterThan}
+use Rattle.common.specs.declared.operator.Sameness.TheVariants.{Same}
 use Rattle.resolved.specs.declared.expression.Variable.TheVariants.{Local}
 use Rattle.resolved.specs.declared.statement.Exit.TheVariants.{Throw}
 use Rattle.common.specs.declared.direction.Direction.TheVariants.{Output}
@@ -81,8 +83,8 @@ short_circuit = program_with
     (Then (Assign 0 (Local 1) (Integer 0))
     (Then (Try 0
     (Then (Assign 0 (Local 2) (Short And
-    (Binary (Compare Equal) (Binary (Divide Quotient) (Integer 1) (local 0)) (local 1))
-    (Binary (Compare LessThan) (local 1) (Integer 9))))
+    (Binary (Compare (Matched Same)) (Binary (Compute Divide) (Integer 1) (local 0)) (local 1))
+    (Binary (Compare (Ordered LessThan)) (local 1) (Integer 9))))
     (Then send_one Empty))
     (Catch 0 ARITH Empty NoMore)) Empty))))
     nothing_else
@@ -94,7 +96,7 @@ raising_argument = program_with
     (procedure [] 0 (int_slot [] ∷ [])
     (Then (Assign 0 (Local 0) (Integer 3))
     (Then (Try 0
-    (Then (Call 0 1 (Binary (Divide Quotient) (Integer 1) (local 0) ∷ []) None)
+    (Then (Call 0 1 (Binary (Compute Divide) (Integer 1) (local 0) ∷ []) None)
     (Then send_one Empty))
     (Catch 0 ARITH Empty NoMore)) Empty)))
     (procedure secret 1 (int_slot [] ∷ []) Empty)
@@ -105,7 +107,7 @@ abbrev pub two_normal_exits : Program
 two_normal_exits = program_with
     (procedure [] 0 [] (Then (Call 0 1 (Integer 5 ∷ []) None) (Then send_one Empty)))
     (procedure [] 1 (int_slot secret ∷ [])
-    (Then (If 0 (Binary (Compare GreaterThan) (local 0) (Integer 0)) (Then (ReturnWith 0 None) Empty) Empty)
+    (Then (If 0 (Binary (Compare (Ordered GreaterThan)) (local 0) (Integer 0)) (Then (ReturnWith 0 None) Empty) Empty)
     (Then (Assign 0 (Local 0) (Integer 1)) Empty)))
 
 -- `int{} y = 3; int{Alice:} x = 0; try { y = 1 / y; if (x > 0) { throw Oops; } } catch (Arith) { send pub, 1; } catch (Oops) { }`: only
@@ -116,8 +118,8 @@ handler_of_one = program_with
     (Then (Assign 0 (Local 0) (Integer 3))
     (Then (Assign 0 (Local 1) (Integer 0))
     (Then (Try 0
-    (Then (Assign 0 (Local 0) (Binary (Divide Quotient) (Integer 1) (local 0)))
-    (Then (If 0 (Binary (Compare GreaterThan) (local 1) (Integer 0)) (Then (Leave 0 (Throw oops)) Empty) Empty) Empty))
+    (Then (Assign 0 (Local 0) (Binary (Compute Divide) (Integer 1) (local 0)))
+    (Then (If 0 (Binary (Compare (Ordered GreaterThan)) (local 1) (Integer 0)) (Then (Leave 0 (Throw oops)) Empty) Empty) Empty))
     (Catch 0 ARITH (Then send_one Empty)
     (Catch 0 oops Empty NoMore))) Empty))))
     nothing_else

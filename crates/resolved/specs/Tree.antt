@@ -2,9 +2,9 @@
 -- Source: our own language; statements with several exits as in JFlow (Myers 1999).
 use Rattle.std.specs.Prelude.{ℕ, Bool, List, Option}
 use Rattle.resolved.specs.declared.expression.Variable.{Variable}
-use Rattle.resolved.specs.declared.expression.Prefix.{Prefix}
+use Rattle.common.specs.declared.operator.Prefix.{Prefix}
 use Rattle.resolved.specs.declared.expression.Operator.{Operator}
-use Rattle.resolved.specs.declared.expression.Connective.{Connective}
+use Rattle.common.specs.declared.operator.Connective.{Connective}
 use Rattle.resolved.specs.declared.statement.Exit.{Exit}
 
 -- an expression; an element has its array, the array's declared length, and the index

@@ -15,10 +15,10 @@ use Rattle.resolved.specs.declared.expression.Value.{Value}
 use Rattle.resolved.specs.declared.expression.Value.TheVariants.{Number, Truth}
 use Rattle.resolved.specs.declared.expression.Variable.{Variable}
 use Rattle.resolved.specs.declared.expression.Variable.TheVariants.{Global, Local}
-use Rattle.resolved.specs.declared.expression.Prefix.{Prefix}
-use Rattle.resolved.specs.declared.expression.Prefix.TheVariants.{Negate, Not}
+use Rattle.common.specs.declared.operator.Prefix.{Prefix}
+use Rattle.common.specs.declared.operator.Prefix.TheVariants.{Negate, Not}
 use Rattle.resolved.specs.declared.expression.Operator.{Operator}
-use Rattle.resolved.specs.declared.expression.Operator.TheVariants.{Compute, Divide, Bits, Compare, Match}
+use Rattle.resolved.specs.declared.expression.Operator.TheVariants.{Compute, Compare, Match}
 use Rattle.common.specs.declared.direction.Direction.{Direction}
 use Rattle.common.specs.declared.direction.Direction.TheVariants.{Input, Output}
 use Rattle.resolved.specs.declared.statement.Exit.{Exit}
@@ -38,17 +38,13 @@ prefix_base Negate = Int
 prefix_base Not = Boolean
 
 abbrev pub operand_base : Operator → BaseType
-operand_base (Compute computation) = Int
-operand_base (Divide division) = Int
-operand_base (Bits operator) = Int
-operand_base (Compare relation) = Int
+operand_base (Compute operator) = Int
+operand_base (Compare comparison) = Int
 operand_base (Match sameness) = Boolean
 
 abbrev pub result_base : Operator → BaseType
-result_base (Compute computation) = Int
-result_base (Divide division) = Int
-result_base (Bits operator) = Int
-result_base (Compare relation) = Boolean
+result_base (Compute operator) = Int
+result_base (Compare comparison) = Boolean
 result_base (Match sameness) = Boolean
 
 -- 301 unknown name, 403 wrong use: what a variable is that is there, a base type, and a length if it is an array

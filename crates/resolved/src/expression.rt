@@ -1,5 +1,7 @@
 //! Expressions and what they are made of.
 
+use common::{Arithmetic, Comparison, Connective, Prefix, Sameness};
+
 /// A variable, a parameter or an array: a global, or a slot of the frame, by its number.
 #[derive(Clone, Copy, Debug, PartialEq, Eq)]
 pub enum Variable {
@@ -14,79 +16,15 @@ pub enum Value {
     Truth(bool),
 }
 
-/// An operator before its operand.
-#[derive(Clone, Copy, Debug, PartialEq, Eq)]
-pub enum Prefix {
-    Negate,
-    Not,
-}
-
 /// An operator that always evaluates both operands.
 #[derive(Clone, Copy, Debug, PartialEq, Eq)]
 pub enum Operator {
-    /// A number of two numbers.
-    Compute(Computation),
     /// A number of two numbers, or the exception `Arith` where the divisor is 0.
-    Divide(Division),
-    /// A number of the bits of two numbers.
-    Bits(BitOperator),
+    Compute(Arithmetic),
     /// A truth value of two numbers.
-    Compare(Relation),
+    Compare(Comparison),
     /// A truth value of two truth values.
     Match(Sameness),
-}
-
-/// `+`, `-` and `*`.
-#[derive(Clone, Copy, Debug, PartialEq, Eq)]
-pub enum Computation {
-    Add,
-    Subtract,
-    Multiply,
-}
-
-/// `/` and `%`.
-#[derive(Clone, Copy, Debug, PartialEq, Eq)]
-pub enum Division {
-    Quotient,
-    Remainder,
-}
-
-/// `&`, `|`, `^`, `<<`, `>>` and `>>>`.
-#[derive(Clone, Copy, Debug, PartialEq, Eq)]
-pub enum BitOperator {
-    BitAnd,
-    BitOr,
-    BitXor,
-    ShiftLeft,
-    /// Fills with the sign.
-    ShiftRight,
-    /// Fills with zeros.
-    ShiftRightUnsigned,
-}
-
-/// `<`, `<=`, `>` and `>=`, and `==` and `!=` on numbers.
-#[derive(Clone, Copy, Debug, PartialEq, Eq)]
-pub enum Relation {
-    LessThan,
-    AtMost,
-    GreaterThan,
-    AtLeast,
-    Equal,
-    Unequal,
-}
-
-/// `==` and `!=` on truth values.
-#[derive(Clone, Copy, Debug, PartialEq, Eq)]
-pub enum Sameness {
-    Same,
-    Different,
-}
-
-/// An operator that evaluates its right operand only where the left one does not decide.
-#[derive(Clone, Copy, Debug, PartialEq, Eq)]
-pub enum Connective {
-    And,
-    Or,
 }
 
 /// An expression. Parentheses leave no trace.

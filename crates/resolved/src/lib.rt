@@ -6,6 +6,7 @@ pub mod expression;
 pub mod fault;
 pub mod laws;
 pub mod lookup;
+mod message;
 pub mod program;
 pub mod slot_name;
 pub mod statement;

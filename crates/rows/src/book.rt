@@ -60,7 +60,7 @@ impl<'a> Book<'a> {
         }
         book.end_row()?;
         if book.counts.rows == 0 {
-            book.report_fault(number, OrNoMemory::Refused(LineRefusal::NoRows))?;
+            book.report_fault(number, OrNoMemory::Refused(LineRefusal::NO_ROWS))?;
         }
         Ok(book)
     }
@@ -102,7 +102,7 @@ impl<'a> Book<'a> {
     // What is wanted of the row.
     fn want(&mut self, line: &str) -> Result<(), LineFault> {
         let Some(row) = &mut self.row else {
-            return Err(OrNoMemory::Refused(LineRefusal::NoRow));
+            return Err(OrNoMemory::Refused(LineRefusal::NO_ROW));
         };
         write(&mut row.wanted, line.as_bytes())?;
         write(&mut row.wanted, b"\n")

@@ -28,7 +28,7 @@ pub fn change(
         "at" => write_at(alloc, texts.newest()?, rest),
         "cut" => cut(texts.newest()?, rest),
         "swap" => swap(alloc, texts, rest),
-        _ => Err(OrNoMemory::Refused(LineRefusal::UnknownWord)),
+        _ => Err(OrNoMemory::Refused(LineRefusal::UNKNOWN_WORD)),
     }
 }
 
@@ -55,7 +55,7 @@ fn put_file(rt: &HostRuntime, texts: &mut Texts, rest: &str) -> Result<(), LineF
     match fs::read(rt, path) {
         Ok(bytes) => texts.put(name, bytes),
         Err(error) if error.kind() == ErrorKind::OutOfMemory => Err(OrNoMemory::NoMemory),
-        Err(_) => Err(OrNoMemory::Refused(LineRefusal::NoFile)),
+        Err(_) => Err(OrNoMemory::Refused(LineRefusal::NO_FILE)),
     }
 }
 
@@ -76,7 +76,7 @@ fn add_text(texts: &mut Texts, rest: &str) -> Result<(), LineFault> {
 // The bytes from one offset up to another.
 fn part(bytes: &[u8], from: usize, to: usize) -> Result<&[u8], LineFault> {
     if from > to || to > bytes.len() {
-        return Err(OrNoMemory::Refused(LineRefusal::Outside));
+        return Err(OrNoMemory::Refused(LineRefusal::OUTSIDE));
     }
     Ok(&bytes[from..to])
 }
@@ -106,7 +106,7 @@ fn write_at(alloc: Global, bytes: &mut Vec<u8>, rest: &str) -> Result<(), LineFa
 
 fn overwrite(bytes: &mut [u8], offset: usize, more: &[u8]) -> Result<(), LineFault> {
     if offset > bytes.len() || more.len() > bytes.len() - offset {
-        return Err(OrNoMemory::Refused(LineRefusal::Outside));
+        return Err(OrNoMemory::Refused(LineRefusal::OUTSIDE));
     }
     let end = offset + more.len();
     bytes[offset..end].copy_from_slice(more);
@@ -117,7 +117,7 @@ fn overwrite(bytes: &mut [u8], offset: usize, more: &[u8]) -> Result<(), LineFau
 fn cut(bytes: &mut Vec<u8>, rest: &str) -> Result<(), LineFault> {
     let length = place_of(rest)?;
     if length > bytes.len() {
-        return Err(OrNoMemory::Refused(LineRefusal::Outside));
+        return Err(OrNoMemory::Refused(LineRefusal::OUTSIDE));
     }
     bytes.truncate(length);
     Ok(())
@@ -126,7 +126,7 @@ fn cut(bytes: &mut Vec<u8>, rest: &str) -> Result<(), LineFault> {
 // `swap OLD => NEW`: a piece in the place of another one that stands in the text once.
 fn swap(alloc: Global, texts: &mut Texts, rest: &str) -> Result<(), LineFault> {
     let Some((old, new)) = rest.split_once(" =>") else {
-        return Err(OrNoMemory::Refused(LineRefusal::WrongForm));
+        return Err(OrNoMemory::Refused(LineRefusal::WRONG_FORM));
     };
     let new = new.strip_prefix(' ').unwrap_or("");
     let bytes = texts.newest()?;
@@ -137,13 +137,13 @@ fn swap(alloc: Global, texts: &mut Texts, rest: &str) -> Result<(), LineFault> {
 
 fn swapped(alloc: Global, bytes: &[u8], old: &str, new: &str) -> Result<Vec<u8>, LineFault> {
     let Ok(text) = str::from_utf8(bytes) else {
-        return Err(OrNoMemory::Refused(LineRefusal::WrongForm));
+        return Err(OrNoMemory::Refused(LineRefusal::WRONG_FORM));
     };
     let Some((before, after)) = text.split_once(old) else {
-        return Err(OrNoMemory::Refused(LineRefusal::NotOnce));
+        return Err(OrNoMemory::Refused(LineRefusal::NOT_ONCE));
     };
     if after.contains(old) {
-        return Err(OrNoMemory::Refused(LineRefusal::NotOnce));
+        return Err(OrNoMemory::Refused(LineRefusal::NOT_ONCE));
     }
     let mut swapped = Vec::new(alloc);
     for piece in [before, new, after] {

@@ -26,14 +26,14 @@ pub fn event_of(texts: &Texts, words: &str) -> Result<Event, LineFault> {
         ["turn", id, steps] => Ok(Event::Turn(number_of(id)?, number_of(steps)?)),
         ["view", id, principal] => Ok(Event::View(number_of(id)?, principal_of(principal)?)),
         ["close", id] => Ok(Event::Close(number_of(id)?)),
-        _ => Err(OrNoMemory::Refused(LineRefusal::WrongForm)),
+        _ => Err(OrNoMemory::Refused(LineRefusal::WRONG_FORM)),
     }
 }
 
 fn principal_of(word: &str) -> Result<u32, LineFault> {
     match word.parse::<u32>() {
         Ok(number) => Ok(number),
-        Err(_) => Err(OrNoMemory::Refused(LineRefusal::WrongForm)),
+        Err(_) => Err(OrNoMemory::Refused(LineRefusal::WRONG_FORM)),
     }
 }
 
@@ -59,19 +59,19 @@ fn open_under(
 // The hierarchy that a text is.
 fn hierarchy_of(alloc: Global, text: &[u8]) -> Result<Hierarchy, LineFault> {
     let Ok(text) = str::from_utf8(text) else {
-        return Err(OrNoMemory::Refused(LineRefusal::NoHierarchy));
+        return Err(OrNoMemory::Refused(LineRefusal::NO_HIERARCHY));
     };
     match Hierarchy::read(alloc, text) {
         Ok(hierarchy) => Ok(hierarchy),
         Err(OrNoMemory::NoMemory) => Err(OrNoMemory::NoMemory),
-        Err(OrNoMemory::Refused(_)) => Err(OrNoMemory::Refused(LineRefusal::NoHierarchy)),
+        Err(OrNoMemory::Refused(_)) => Err(OrNoMemory::Refused(LineRefusal::NO_HIERARCHY)),
     }
 }
 
 // The world of a module's inputs that a text is.
 fn world_of(alloc: Global, module: &[u8], text: &[u8]) -> Result<World, LineFault> {
     let Ok(text) = str::from_utf8(text) else {
-        return Err(OrNoMemory::Refused(LineRefusal::NoWorld));
+        return Err(OrNoMemory::Refused(LineRefusal::NO_WORLD));
     };
     let program = decode(alloc, module).map_err(OrNoMemory::cast)?;
     World::read(alloc, &program, text).map_err(OrNoMemory::cast)
@@ -142,7 +142,7 @@ fn line_of(alloc: Global, refusal: HostRefusal) -> Result<String, AllocError> {
     let Message { number, words } = refusal.message();
     match refusal {
         HostRefusal::Load(LoadRefusal::Bytes(found)) => {
-            let offset = found.offset;
+            let offset = found.at;
             format!(in alloc; "{offset}: {number} {words}\n")
         }
         HostRefusal::Load(LoadRefusal::Code(found)) => {

@@ -2,31 +2,33 @@ use common::OrNoMemory;
 use flowc::{FormatRefusal, WorldRefusal};
 use std::fmt;
 
-/// What is wrong with a line of a data file, or with the file.
+/// What is wrong with a line of a data file, or with the file, in words.
 #[derive(Clone, Copy, Debug, PartialEq, Eq)]
-pub enum LineRefusal {
+pub struct LineRefusal(&'static str);
+
+impl LineRefusal {
     /// No line begins so.
-    UnknownWord,
+    pub const UNKNOWN_WORD: LineRefusal = LineRefusal("unknown word");
     /// The words after the first are not those that it takes.
-    WrongForm,
+    pub const WRONG_FORM: LineRefusal = LineRefusal("wrong form");
     /// What is wanted stands after no row.
-    NoRow,
+    pub const NO_ROW: LineRefusal = LineRefusal("no row before this line");
     /// There is no row in the file.
-    NoRows,
+    pub const NO_ROWS: LineRefusal = LineRefusal("no row in this file");
     /// No text has the name.
-    NoText,
+    pub const NO_TEXT: LineRefusal = LineRefusal("no text of this name");
     /// There is no file of this name, or it cannot be read.
-    NoFile,
+    pub const NO_FILE: LineRefusal = LineRefusal("no file of this name");
     /// The text is shorter.
-    Outside,
+    pub const OUTSIDE: LineRefusal = LineRefusal("outside the text");
     /// What is to be replaced does not stand in the text once.
-    NotOnce,
+    pub const NOT_ONCE: LineRefusal = LineRefusal("not once in the text");
     /// The text is no module.
-    NoModule,
+    pub const NO_MODULE: LineRefusal = LineRefusal("no module");
     /// The text is no world of the module.
-    NoWorld,
+    pub const NO_WORLD: LineRefusal = LineRefusal("no world of the module");
     /// The text has no hierarchy.
-    NoHierarchy,
+    pub const NO_HIERARCHY: LineRefusal = LineRefusal("no hierarchy");
 }
 
 /// Why a line of a data file was not done.
@@ -34,30 +36,18 @@ pub type LineFault = OrNoMemory<LineRefusal>;
 
 impl fmt::Display for LineRefusal {
     fn fmt<W: fmt::Write>(&self, f: &mut fmt::Formatter<W>) -> fmt::Result {
-        f.write_str(match self {
-            LineRefusal::UnknownWord => "unknown word",
-            LineRefusal::WrongForm => "wrong form",
-            LineRefusal::NoRow => "no row before this line",
-            LineRefusal::NoRows => "no row in this file",
-            LineRefusal::NoText => "no text of this name",
-            LineRefusal::NoFile => "no file of this name",
-            LineRefusal::Outside => "outside the text",
-            LineRefusal::NotOnce => "not once in the text",
-            LineRefusal::NoModule => "no module",
-            LineRefusal::NoWorld => "no world of the module",
-            LineRefusal::NoHierarchy => "no hierarchy",
-        })
+        f.write_str(self.0)
     }
 }
 
 impl From<FormatRefusal> for LineRefusal {
     fn from(_refusal: FormatRefusal) -> LineRefusal {
-        LineRefusal::NoModule
+        LineRefusal::NO_MODULE
     }
 }
 
 impl From<WorldRefusal> for LineRefusal {
     fn from(_refusal: WorldRefusal) -> LineRefusal {
-        LineRefusal::NoWorld
+        LineRefusal::NO_WORLD
     }
 }

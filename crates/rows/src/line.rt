@@ -26,7 +26,7 @@ pub fn words_of(alloc: Global, line: &str) -> Result<Vec<&str>, LineFault> {
 pub fn number_of(word: &str) -> Result<u64, LineFault> {
     match word.parse::<u64>() {
         Ok(number) => Ok(number),
-        Err(_) => Err(OrNoMemory::Refused(LineRefusal::WrongForm)),
+        Err(_) => Err(OrNoMemory::Refused(LineRefusal::WRONG_FORM)),
     }
 }
 
@@ -34,7 +34,7 @@ pub fn number_of(word: &str) -> Result<u64, LineFault> {
 pub fn place_of(word: &str) -> Result<usize, LineFault> {
     match word.parse::<usize>() {
         Ok(number) => Ok(number),
-        Err(_) => Err(OrNoMemory::Refused(LineRefusal::WrongForm)),
+        Err(_) => Err(OrNoMemory::Refused(LineRefusal::WRONG_FORM)),
     }
 }
 
@@ -51,6 +51,6 @@ fn add_hex(alloc: Global, bytes: &mut Vec<u8>, word: &str) -> Result<(), LineFau
     match hex::decode(alloc, word) {
         Ok(more) => Ok(bytes.extend_from_slice(&more)?),
         Err(FromHexError::OutOfMemory) => Err(OrNoMemory::NoMemory),
-        Err(_) => Err(OrNoMemory::Refused(LineRefusal::WrongForm)),
+        Err(_) => Err(OrNoMemory::Refused(LineRefusal::WRONG_FORM)),
     }
 }

@@ -49,7 +49,7 @@ fn read_file(rt: &HostRuntime, path: &str) -> Result<Counts, LineFault> {
     let Ok(text) = fs::read_to_string(rt, path) else {
         print(rt, path.as_bytes())?;
         print(rt, b": cannot read\n")?;
-        return Err(OrNoMemory::Refused(LineRefusal::NoFile));
+        return Err(OrNoMemory::Refused(LineRefusal::NO_FILE));
     };
     let book = Book::read(rt, path, &text)?;
     print(rt, book.report())?;
@@ -71,6 +71,6 @@ fn print_counts(rt: &HostRuntime, of: &str, counts: Counts) -> Result<(), LineFa
 fn print(rt: &HostRuntime, bytes: &[u8]) -> Result<(), LineFault> {
     match write_all(&mut Device::new(rt.stdout()), bytes) {
         Ok(()) => Ok(()),
-        Err(_) => Err(OrNoMemory::Refused(LineRefusal::NoFile)),
+        Err(_) => Err(OrNoMemory::Refused(LineRefusal::NO_FILE)),
     }
 }

@@ -33,7 +33,7 @@ impl Texts {
     pub fn get(&self, name: &str) -> Result<&[u8], LineFault> {
         match self.texts.iter().find(|text| text.name.as_str() == name) {
             Some(text) => Ok(text.bytes.as_slice()),
-            None => Err(OrNoMemory::Refused(LineRefusal::NoText)),
+            None => Err(OrNoMemory::Refused(LineRefusal::NO_TEXT)),
         }
     }
 
@@ -46,7 +46,7 @@ impl Texts {
     pub fn newest(&mut self) -> Result<&mut Vec<u8>, LineFault> {
         match self.texts.last_mut() {
             Some(text) => Ok(&mut text.bytes),
-            None => Err(OrNoMemory::Refused(LineRefusal::NoText)),
+            None => Err(OrNoMemory::Refused(LineRefusal::NO_TEXT)),
         }
     }
 

@@ -17,7 +17,7 @@ pub fn answer_tokens(
 ) -> Result<(), LineFault> {
     let alloc = texts.alloc();
     let Ok(text) = str::from_utf8(texts.get(name)?) else {
-        return Err(OrNoMemory::Refused(LineRefusal::WrongForm));
+        return Err(OrNoMemory::Refused(LineRefusal::WRONG_FORM));
     };
     match lex(alloc, text) {
         Ok(tokens) => write_tokens(alloc, &tokens, has_lines, answer),

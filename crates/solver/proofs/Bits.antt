@@ -1,9 +1,9 @@
 -- Sets of numbers as truth values: after a number was added, of two sets, and how many numbers they have.
 use Rattle.std.proofs.Common.{◌≡◌, refl, ap, ◌∙◌, subst, sym, ℕ, zero, suc, ◌<◌, ◌≤◌, ◌+◌, length, set, get_or, get_or-set_other, get_or-set_same, List, [], ◌∷◌, Bool, true, false, arith, nat_eq, ◌||◌, ◌⊎◌, inl, inr, replicate, add-zero, Option, Some, None}
-use Rattle.std.specs.Prelude.{IsTrue, ◌==◌}
+use Rattle.std.specs.Prelude.{IsTrue, ◌==◌, is_some}
 use Rattle.std.proofs.lemmas.Bool.{cases_lt, eqb-true, eqb-false, or_left, or_right}
-use Rattle.labels.specs.Row.{Includes, has}
-use Rattle.solver.specs.Work.{Grown, IsGrown}
+use Rattle.labels.specs.Row.{FirstBeyond, Includes, has}
+use Rattle.solver.specs.Work.{Grown}
 use Rattle.solver.specs.Looks.{count_of, one, stands_left, written_left}
 use Rattle.solver.specs.declared.constraints.Constraint.{Constraint}
 
@@ -114,9 +114,12 @@ or-kept false true h = let no : false ≡ true = h refl in absurd (cc)
 pub grown-members : (own more row : List Bool) → Grown own more row → (n : ℕ) → has row n ≡ (has own n || has more n)
 grown-members own more row grown n = grown.members n ∙ or-swap (has more n) (has own n)
 
-pub kept-members : (own more : List Bool) → Includes own more → (n : ℕ) → has own n ≡ (has own n || has more n)
-kept-members own more all n = or-kept (has own n) (has more n) (all n)
+pub kept-all : (own : List Bool) (more : ℕ → Bool) → ((n : ℕ) → IsTrue (more n) → IsTrue (has own n)) → (n : ℕ) → has own n ≡ (has own n || more n)
+kept-all own more all n = or-kept (has own n) (more n) (all n)
 
-pub none-new : (own more : List Bool) (found : Option (List Bool)) → IsGrown own more found → ((row : List Bool) → found ≡ Some row → ⊥) → Includes own more
-none-new own more None all never = all
-none-new own more (Some row) grown never = absurd (never row refl)
+pub same-members : (a b : Bool) → (IsTrue a → IsTrue b) → (IsTrue b → IsTrue a) → a ≡ b
+same-members a b to from = or-kept a b from ∙ (or-swap a b ∙ sym (or-kept b a to))
+
+pub some-size : (row : List Bool) (found : Option ℕ) → FirstBeyond row [] 0 found → IsTrue (is_some found) → 0 < size row
+some-size row None first some = let no : false ≡ true = some in absurd (cc)
+some-size row (Some i) first some = size-less [] row i (λ n held. let no : false ≡ true = held in absurd (cc)) first.there refl

@@ -1,13 +1,23 @@
 -- Rows that stand on other ones: what they are after one more was added.
-use Rattle.std.proofs.Common.{◌≡◌, refl, sym, ap, ◌∙◌, subst, ℕ, zero, suc, ◌<◌, ◌≤◌, length, set, get_or, List, [], ◌∷◌, ◌++◌, map, Bool, true, false, arith, replicate, All, ⊎_elim}
+use Rattle.std.proofs.Common.{◌≡◌, refl, sym, ap, ◌∙◌, subst, ℕ, zero, suc, ◌<◌, ◌≤◌, length, set, get_or, List, [], ◌∷◌, ◌++◌, map, Bool, true, false, arith, replicate, All, ⊎_elim, ◌||◌, Option, Some, None}
+use Rattle.std.specs.Prelude.{Contains, IsTrue}
 use Rattle.std.proofs.lemmas.Bool.{cases_lt}
 use Rattle.std.proofs.lemmas.List.{get_or_append_left, get_or_push, length-set, length_push}
 use Rattle.labels.specs.Row.{has, union}
-use Rattle.solver.specs.Rows.{has_at}
+use Rattle.solver.specs.Rows.{AreSized, atom_has, has_at, left_has}
 use Rattle.solver.specs.Sharing.{AreForms, IsForm, bits_after, bits_of, form_bits, kept_at, nothing_kept, with_numbers}
 use Rattle.solver.specs.declared.sharing.RowForm.{RowForm}
 use Rattle.solver.specs.declared.sharing.RowForm.TheVariants.{Whole, Beyond}
+use Rattle.solver.specs.Work.{IsGrown, IsMore, MayBeMore}
+use Rattle.solver.specs.declared.constraints.Atom.{Atom}
+use Rattle.solver.specs.declared.constraints.Atom.TheVariants.{Unknown}
 use Rattle.solver.specs.declared.sharing.Kept.{Kept}
+use Rattle.solver.proofs.Bits.{grown-members, same-members, size}
+use Rattle.solver.proofs.Solved.{list_any-has}
+
+pub none-long : (row : List Bool) → length row ≡ 0 → row ≡ []
+none-long [] e = refl
+none-long (b ∷ row) e = absurd (omega (arith, e))
 
 pub union-none : (row : List Bool) → union (replicate (length row) false) row ≡ row
 union-none [] = refl
@@ -65,6 +75,9 @@ after-form kept k (suc steps) (Beyond base more) fits e =
 pub bits-form : (kept : List Kept) → AreForms kept → (k : ℕ) → k < length kept → (form : RowForm) → (kept_at kept k).form ≡ form → bits_of kept k ≡ form_bits (bits_of kept) form
 bits-form kept forms k h form e = after-form kept k (kept_at kept k).steps form (form-at kept forms k h form e) e
 
+pub whole-bits : (kept : List Kept) (k : ℕ) (row : List Bool) → (kept_at kept k).form ≡ Whole row → bits_of kept k ≡ row
+whole-bits kept k row e = after-form kept k (kept_at kept k).steps (Whole row) tt e
+
 -- a row that is kept whole is that of its unknown
 pub whole-row : (kept : List Kept) (of : List ℕ) (rows : List (List Bool)) (unknown number : ℕ) (own : List Bool) → AreForms kept →
     unknown < length of → number ≡ get_or of unknown number → number < length kept → (kept_at kept number).form ≡ Whole own →
@@ -72,6 +85,37 @@ pub whole-row : (kept : List Kept) (of : List ℕ) (rows : List (List Bool)) (un
 whole-row kept of rows unknown number own forms there at inside form view =
     sym (bits-form kept forms number inside (Whole own) form) ∙ (ap (bits_of kept) at ∙ (sym (map-read (bits_of kept) of unknown number there)
     ∙ ap (λ (found : List (List Bool)). get_or found unknown []) view))
+
+-- ---- what a left side brings to the row of an unknown
+module _ (rows : List (List Bool)) (count u : ℕ) (left : List Atom) where
+  pub more-of : (all : List Bool) (found : Option (List Bool)) → length all ≡ count → ((n : ℕ) → has all n ≡ left_has rows left n) →
+      IsGrown (get_or rows u []) all found → MayBeMore rows count u left found
+  more-of all None sized is includes = λ n held. sym (has_at-row rows u n) ∙ includes n (is n ∙ held)
+  more-of all (Some row) sized is grown = record {
+    short = let short = grown.short in omega (arith, short, sized);
+    members = λ n. grown-members (get_or rows u []) all row grown n ∙ ap (λ b. has (get_or rows u []) n || b) (is n);
+    larger = grown.larger;
+  }
+
+  pub none-more : (found : Option (List Bool)) → MayBeMore rows count u left found → ((row : List Bool) → found ≡ Some row → ⊥) → MayBeMore rows count u left None
+  none-more None all never = all
+  none-more (Some row) more never = absurd (never row refl)
+
+  -- the row of an unknown of the left side comes to one that has none
+  pub more-from : (from : ℕ) (row : List Bool) → from < length rows → get_or rows from [] ≡ row → Contains left (Unknown from) → get_or rows u [] ≡ [] → 0 < size row →
+      ((n : ℕ) → IsTrue (left_has rows left n) → IsTrue (has row n)) → AreSized count rows → IsMore rows count u left row
+  more-from from row inside is part none some covers sized = record {
+    short = subst (λ (r : List Bool). length r ≤ count) is (sized from [] inside);
+    members = λ n. same-members (has row n) (left_has rows left n)
+        (λ held. list_any-has (atom_has rows n) left (Unknown from) part (sym (has_at-row rows from n) ∙ (ap (λ (r : List Bool). has r n) is ∙ held)))
+        (covers n)
+        ∙ ap (λ (r : List Bool). has r n || left_has rows left n) (sym none);
+    larger = subst (λ (r : List Bool). size r < size row) (sym none) some;
+  }
+
+pub more-still : (rows rows' : List (List Bool)) → rows' ≡ rows → (count u : ℕ) (left : List Atom) (all : List Bool) (found : Option (List Bool)) → length all ≡ count →
+    ((n : ℕ) → has all n ≡ left_has rows' left n) → IsGrown (get_or rows' u []) all found → MayBeMore rows count u left found
+more-still rows rows' same count u left all found sized is grown = subst (λ (r : List (List Bool)). MayBeMore r count u left found) same (more-of rows' count u left all found sized is grown)
 
 -- ---- one more row
 pub form-by : (kept : List Kept) (one other : ℕ → List Bool) (steps : ℕ) (form : RowForm) → IsForm kept steps form →

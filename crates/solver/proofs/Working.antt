@@ -67,8 +67,7 @@ module _ {T : Type 0} (cs : List (Constraint T)) (edges : Edges) (are : AreEdges
   -- ---- a constraint was looked at
   module _ (range : InRange (length edges.written) (length edges.unknown) cs) (rows : List (List Bool)) (waits : List Bool) (order : List ℕ) (i : ℕ)
       (work : IsWork cs edges rows waits order i) (c : Constraint T) (at : slice_get cs i ≡ Some c) (u : ℕ) (right : c.right ≡ Unknown u)
-      (left : List Bool) (left_length : length left ≡ length edges.written) (left_is : (n : ℕ) → has left n ≡ left_has rows c.left.items n)
-      (d : List Bool) (row : List Bool) (row_short : length row ≤ length left) (row_has : (n : ℕ) → has row n ≡ (has (get_or rows u d) n || has left n)) where
+      (d : List Bool) (row : List Bool) (row_length : length row ≤ length edges.written) (row_has : (n : ℕ) → has row n ≡ (has (get_or rows u d) n || left_has rows c.left.items n)) where
     abbrev old : List Bool
     old = get_or rows u d
 
@@ -81,13 +80,10 @@ module _ {T : Type 0} (cs : List (Constraint T)) (edges : Edges) (are : AreEdges
         let e = work.all in
         omega (arith, h, e)
 
-    row-length : length row ≤ length edges.written
-    row-length = omega (arith, row_short, left_length)
-
     has-row : (n : ℕ) → has_at rows' u n ≡ (has_at rows u n || left_has rows c.left.items n)
     has-row n =
         has_at-same rows u n row inside
-        ∙ (row_has n ∙ (ap (λ b. b || has left n) (has_at-read rows u n d inside) ∙ ap (λ b. has_at rows u n || b) (left_is n)))
+        ∙ (row_has n ∙ ap (λ b. b || left_has rows c.left.items n) (has_at-read rows u n d inside))
 
     has-left : (n : ℕ) → IsTrue (left_has rows c.left.items n) → IsTrue (has_at rows' u n)
     has-left n t = has-row n ∙ or_right (has_at rows u n) (left_has rows c.left.items n) t
@@ -174,7 +170,7 @@ module _ {T : Type 0} (cs : List (Constraint T)) (edges : Edges) (are : AreEdges
       work-grown : IsWork cs edges rows' waits' order' (length cs)
       work-grown = record {
         all = length-set rows u row ∙ work.all;
-        sized = All-set (λ (r : List Bool). length r ≤ length edges.written) rows u row row-length work.sized;
+        sized = All-set (λ (r : List Bool). length r ≤ length edges.written) rows u row row_length work.sized;
         sound = sound;
         count = added.count ∙ work.count;
         listed = λ j t. ⊎_elim (λ before. added.waiting j (work.listed j before)) (λ now. now) (added.listed j t);
@@ -189,7 +185,7 @@ module _ {T : Type 0} (cs : List (Constraint T)) (edges : Edges) (are : AreEdges
     row-small : size row ≤ most
     row-small =
         let few = size-at_most cs 0 row (λ n t. subst (λ m. IsTrue (stands_left cs m)) (zero_plus n) (reached-stands n u (sound u n (has_at-same rows u n row inside ∙ t)))) in
-        let more = written_left-more cs 0 (length row) (length edges.written) row-length in
+        let more = written_left-more cs 0 (length row) (length edges.written) row_length in
         omega (arith, few, more)
       where
         zero_plus : (n : ℕ) → n ≡ 0 + n

@@ -18,7 +18,8 @@ pub struct Queue {
 }
 
 impl Queue {
-    // A constraint waits, unless it does so already.
+    // A constraint waits, unless it does so already. It is inlined, so that nothing is called for each edge.
+    #[inline(always)]
     fn add(&mut self, by: usize) -> Result<(), AllocError>
         requires { by < length self.old.waits.items }
         ensures waits { OnOk result (self.new.waits.items ≡ set self.old.waits.items by true) }
@@ -69,6 +70,9 @@ impl Queue {
             self.old.waits.items self.new.waits.items) }
     {
         if by >= constraints.len() {
+            return Ok(());
+        }
+        if self.waits[by] {
             return Ok(());
         }
         if let Atom::Unknown(_) = constraints[by].right {

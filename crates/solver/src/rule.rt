@@ -3,20 +3,20 @@
 ghost use Rattle.solver.specs.Rule.{rule_number};
 ghost use Rattle.std.specs.Prelude.{◌≡◌};
 
-/// The rules of labels that demand something, each by what it makes demands on. What lies between the labels of a program is above
-/// its parts by none of them.
+/// The rules of labels that demand something, each by what it makes demands on, with the number that it has in messages. What lies
+/// between the labels of a program is above its parts by none of them, and has the number 0.
 #[derive(Clone, Copy, Debug, PartialEq, Eq)]
 pub enum Rule {
-    Between,
-    Assignment,
-    ArrayDeclaration,
-    Store,
-    Receive,
-    Send,
-    Call,
-    While,
-    Return,
-    ProcedureExits,
+    Between = 0,
+    Assignment = 1,
+    ArrayDeclaration = 2,
+    Store = 3,
+    Receive = 4,
+    Send = 5,
+    Call = 6,
+    While = 8,
+    Return = 10,
+    ProcedureExits = 13,
 }
 
 impl Rule {
@@ -24,17 +24,6 @@ impl Rule {
     pub fn number(self) -> u8
         ensures { result ≡ rule_number self }
     {
-        match self {
-            Rule::Between => 0,
-            Rule::Assignment => 1,
-            Rule::ArrayDeclaration => 2,
-            Rule::Store => 3,
-            Rule::Receive => 4,
-            Rule::Send => 5,
-            Rule::Call => 6,
-            Rule::While => 8,
-            Rule::Return => 10,
-            Rule::ProcedureExits => 13,
-        }
+        self as u8
     }
 }

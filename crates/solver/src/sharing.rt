@@ -1,8 +1,11 @@
 //! Rows of bits that share their numbers: a row that has few numbers beyond another one stands as that one and these.
 ghost use Rattle.solver.specs.Sharing.{AreForms, AreShared, IsKeptAs, MayBeKeptAs, bits_of, with_numbers};
 ghost use Rattle.labels.specs.Row.{Includes, has};
-ghost use Rattle.solver.specs.Work.{IsGrown};
-ghost use Rattle.std.specs.Prelude.{All, IfOk, IfSome, IsTrue, OnOk, [], false, length, replicate, set, slice_index_or, ℕ, ◌<◌, ◌||◌, ◌≡◌, ◌≤◌};
+ghost use Rattle.solver.specs.Looks.{count_of};
+ghost use Rattle.solver.specs.Rows.{AreSized, atom_has, has_at, left_has};
+ghost use Rattle.solver.specs.Work.{IsBroughtTo, IsGrown, IsMore};
+ghost use Rattle.solver.specs.declared.constraints.Atom.TheVariants.{Unknown};
+ghost use Rattle.std.specs.Prelude.{All, Contains, IfOk, IfSome, IsTrue, OnOk, [], false, length, map, replicate, set, slice_index_or, ℕ, ◌<◌, ◌||◌, ◌≡◌, ◌≤◌};
 
 use crate::constraints::Atom;
 use labels::Row;
@@ -77,7 +80,9 @@ fn first_unknown(left: &[Atom]) -> Option<usize> {
 }
 
 // The last one.
-fn last_unknown(left: &[Atom]) -> Option<usize> {
+fn last_unknown(left: &[Atom]) -> Option<usize>
+    ensures { IfSome result (λ unknown. Contains left.now (Unknown unknown)) }
+{
     for i in 0..left.len() {
         if let Atom::Unknown(unknown) = left[left.len() - 1 - i] {
             return Some(unknown as usize);
@@ -308,6 +313,88 @@ fn same_as(kept: &[Kept], of: &[usize], row: &Row, left: &[Atom]) -> Option<usiz
     }
 }
 
+// Whether the row with a number has all that a part of a left side has, as far as it is seen at once: the part is a number in a row
+// that is kept whole, or an unknown with the same row.
+fn covers_part(kept: &[Kept], of: &[usize], number: usize, part: Atom) -> bool
+    requires forms { AreForms kept.now }
+    requires number { number < length kept.now }
+    ensures { IsTrue result → (n : ℕ) → IsTrue (atom_has (map (bits_of kept.now) of.now) n part)
+        → IsTrue (has (bits_of kept.now number) n) }
+{
+    match part {
+        Atom::Written(n) => match &kept[number].form {
+            RowForm::Whole(row) => row.contains(n as usize),
+            RowForm::Beyond(_, _) => false,
+        },
+        Atom::Unknown(unknown) => match of.get(unknown as usize) {
+            Some(own) => *own == number,
+            None => false,
+        },
+    }
+}
+
+// Whether the row with a number has all that a left side has, as far as it is seen at once.
+fn covers_left(kept: &[Kept], of: &[usize], number: usize, left: &[Atom]) -> bool
+    requires forms { AreForms kept.now }
+    requires number { number < length kept.now }
+    ensures { IsTrue result → (n : ℕ)
+        → IsTrue (left_has (map (bits_of kept.now) of.now) left.now n)
+        → IsTrue (has (bits_of kept.now number) n) }
+{
+    for part in left {
+        if !covers_part(kept, of, number, *part) {
+            return false;
+        }
+    }
+    true
+}
+
+// Whether the row with a number has numbers, as far as it is seen at once.
+fn has_numbers(kept: &[Kept], number: usize) -> bool
+    requires { number < length kept.now }
+    ensures { IsTrue result → 0 < count_of (λ b. b) (bits_of kept.now number) }
+{
+    match &kept[number].form {
+        RowForm::Whole(row) => row.first_from(0).is_some(),
+        RowForm::Beyond(_, _) => false,
+    }
+}
+
+// Whether the row with a number is that below 0.
+fn is_below_zero(kept: &[Kept], number: usize) -> bool
+    requires { number < length kept.now }
+    ensures { IsTrue result → bits_of kept.now number ≡ [] }
+{
+    match &kept[number].form {
+        RowForm::Whole(row) => row.bound() == 0,
+        RowForm::Beyond(_, _) => false,
+    }
+}
+
+// The number of the row of an unknown of a left side, if it is all that the left side has, and an unknown has no number yet.
+fn taken_over(kept: &[Kept], of: &[usize], unknown: usize, left: &[Atom]) -> Option<usize>
+    requires shared { AreShared kept.now of.now }
+    requires unknown { unknown < length of.now }
+    ensures number { IfSome result (λ number. number < length kept.now) }
+    ensures more { IfSome result (λ number. (count : ℕ)
+        → AreSized count (map (bits_of kept.now) of.now)
+        → IsMore (map (bits_of kept.now) of.now) count unknown left.now
+        (bits_of kept.now number)) }
+{
+    let from = last_unknown(left)?;
+    let number = *of.get(from)?;
+    if !has_numbers(kept, number) {
+        return None;
+    }
+    if !is_below_zero(kept, of[unknown]) {
+        return None;
+    }
+    if !covers_left(kept, of, number, left) {
+        return None;
+    }
+    Some(number)
+}
+
 impl SharedRows {
     /// This many empty rows, which will have numbers below a count.
     pub(crate) fn new(
@@ -340,6 +427,37 @@ impl SharedRows {
             return Row::new(alloc, 0);
         }
         whole(alloc, self.kept.as_slice(), self.of[unknown])
+    }
+
+    /// Whether the row of an unknown has all that a left side has. It is seen without another row, and not seen of each that has.
+    pub(crate) fn covers(&self, unknown: usize, left: &[Atom]) -> bool
+        requires { unknown < length self.now }
+        ensures { IsTrue result → (n : ℕ) → IsTrue (left_has self.now left.now n)
+            → IsTrue (has_at self.now unknown n) }
+    {
+        covers_left(
+            self.kept.as_slice(),
+            self.of.as_slice(),
+            self.of[unknown],
+            left,
+        )
+    }
+
+    /// Gives an unknown without a number the row of an unknown of a left side, if that row is all that the left side has. The answer is
+    /// whether it did.
+    pub(crate) fn take_over(&mut self, unknown: usize, left: &[Atom]) -> bool
+        requires { unknown < length self.old }
+        ensures taken { IsTrue result → (count : ℕ) → AreSized count self.old
+            → IsBroughtTo self.old count unknown left.now self.new }
+        ensures kept { result ≡ false → self.new ≡ self.old }
+    {
+        match taken_over(self.kept.as_slice(), self.of.as_slice(), unknown, left) {
+            Some(taken) => {
+                self.of[unknown] = taken;
+                true
+            }
+            None => false,
+        }
     }
 
     /// Adds the numbers of the row of an unknown to another one, which is as long or longer. A row that is kept whole is not copied.

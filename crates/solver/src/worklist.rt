@@ -1,11 +1,11 @@
 //! Which written elements reach each unknown: a work list of constraints.
-ghost use Rattle.solver.specs.Links.{InRange};
+ghost use Rattle.solver.specs.Links.{AreBelow, InRange};
 ghost use Rattle.solver.specs.Looks.{written_left};
 ghost use Rattle.solver.specs.Queue.{RightIsUnknown};
 ghost use Rattle.solver.specs.Reach.{AreEdges};
-ghost use Rattle.solver.specs.Rows.{AreRows};
-ghost use Rattle.solver.specs.Work.{AreSoFar, IsWork, room};
-ghost use Rattle.std.specs.Prelude.{IfOk, OnOk, [], length, ◌+◌, ◌∷◌, ◌≤◌};
+ghost use Rattle.solver.specs.Rows.{AreRows, AreSized};
+ghost use Rattle.solver.specs.Work.{AreSoFar, IsBrought, IsWork, room};
+ghost use Rattle.std.specs.Prelude.{IfOk, OnOk, [], length, ◌+◌, ◌<◌, ◌∷◌, ◌≤◌};
 
 use crate::breaker::left_row;
 use crate::constraints::{Atom, Constraint};
@@ -46,6 +46,33 @@ pub fn rows_of<T>(
     Ok(reached)
 }
 
+// Adds all that a left side has to the row of an unknown. The answer is whether that lacked some of it.
+fn bring(
+    alloc: Global,
+    rows: &mut SharedRows,
+    count: usize,
+    unknown: usize,
+    left: &[Atom],
+) -> Result<bool, AllocError>
+    requires unknown { unknown < length rows.old }
+    requires range { AreBelow count (length rows.old) left.now }
+    requires sized { AreSized count rows.old }
+    ensures { IfOk result (IsBrought rows.old count unknown left.now rows.new) }
+{
+    if rows.covers(unknown, left) {
+        return Ok(false);
+    }
+    if rows.take_over(unknown, left) {
+        return Ok(true);
+    }
+    let all = left_row(alloc, left, rows, count)?;
+    let Some(row) = rows.grown(alloc, unknown, all)? else {
+        return Ok(false);
+    };
+    rows.put(alloc, unknown, row, left)?;
+    Ok(true)
+}
+
 impl Reached {
     // Looks at the left side of a constraint. Where the row of the right side grew, the constraints with it on the left wait.
     fn look<T>(
@@ -81,11 +108,10 @@ impl Reached {
         };
         let unknown = unknown as usize;
         let count = edges.written.len();
-        let left = left_row(alloc, constraint.left.as_slice(), &self.rows, count)?;
+        let left = constraint.left.as_slice();
         self.looks = self.looks.saturating_add(1);
-        if let Some(row) = self.rows.grown(alloc, unknown, left)? {
-            self.rows
-                .put(alloc, unknown, row, constraint.left.as_slice())?;
+        let is_more = bring(alloc, &mut self.rows, count, unknown, left)?;
+        if is_more {
             queue.add_all(edges.unknown.row(unknown))?;
         }
         Ok(())

@@ -6,7 +6,7 @@ use Rattle.syntax.specs.declared.tree.Statement.TheBlock.{hidden-the_row-Stateme
 use Rattle.syntax.specs.declared.tree.Expression.{Expression}
 use Rattle.syntax.specs.declared.tree.Block.{Block}
 use Rattle.syntax.specs.declared.tree.Catch.{Catch}
-use Rattle.syntax.specs.Tree.{CatchTrees, BlockTree, BlockOf, StatementThen, CatchThen, WhileTree, TryTree, NestedTree, NameTree, IfTree, if_tree, expression_tree, statements_of, catches_of, statement_tree, row_trees, catch_trees, block_tree, optional_block_tree, catch_tree}
+use Rattle.syntax.specs.Tree.{CatchTrees, BlockTree, BlockOf, NoStatement, StatementThen, CatchThen, WhileTree, TryTree, NestedTree, NameTree, IfTree, if_tree, expression_tree, statements_of, catches_of, statement_tree, row_trees, catch_trees, block_tree, optional_block_tree, catch_tree}
 
 row_is : (n : _) (row : Row_of-Statement n) → row_trees row ≡ statements_of (map statement_tree (items-the_row-Statement n row))
 row_is n end_of-Statement = refl
@@ -26,7 +26,7 @@ pub nested_is : (body : Block) → statement_tree (declared_statement.Nested bod
 nested_is body = ap NestedTree (hidden_is body)
 
 pub if_is : (at : ℕ) (condition : Expression) (accepted : Block) (otherwise : Option Block) → statement_tree (declared_statement.If at condition accepted otherwise) ≡ if_tree at (expression_tree condition) (block_tree accepted) (optional_block_tree otherwise)
-if_is at condition accepted None = ap (IfTree at (expression_tree condition)) (hidden_is accepted)
+if_is at condition accepted None = ap (λ body. IfTree at (expression_tree condition) body (BlockOf at NoStatement)) (hidden_is accepted)
 if_is at condition accepted (Some otherwise) = rw (hidden_is accepted, hidden_is otherwise) refl
 
 same_catch : {at : ℕ} {exception : NameTree} {a b : BlockTree} {x y : CatchTrees} → a ≡ b → x ≡ y → CatchThen at exception a x ≡ CatchThen at exception b y

@@ -11,7 +11,7 @@ use Rattle.syntax.specs.Nodes.{program_nodes}
 use Rattle.syntax.specs.declared.line.Line.{Line}
 use Rattle.common.specs.declared.base_type.BaseType.{BaseType}
 use Rattle.syntax.specs.declared.tree.BinaryOperator.{BinaryOperator}
-use Rattle.syntax.specs.declared.tree.UnaryOperator.{UnaryOperator}
+use Rattle.common.specs.declared.operator.Prefix.{Prefix}
 use Rattle.syntax.specs.Tree.{ProgramTree}
 use Rattle.syntax.specs.Written.{IsInteger, IsNameWithin, IsWritten}
 use Rattle.common.specs.declared.direction.Direction.{Direction}
@@ -52,7 +52,7 @@ SpellsAlone F token tree = Spelled F 0 0 (token ∷ []) (token.start, tree) []
 pub record EachIsThere : Type 0 where
   pub line : (line : Line) → Contains lines line
   pub binary : (operator : BinaryOperator) → (line : Line) × (kind : Kind) × (table (operators_of line) kind ≡ Some operator)
-  pub unary : (operator : UnaryOperator) → (kind : Kind) × (table signs kind ≡ Some operator)
+  pub unary : (operator : Prefix) → (kind : Kind) × (table signs kind ≡ Some operator)
   pub base : (tree : BaseType) → (token : Terminal) × SpellsAlone base token tree
   pub truth : (tree : Bool) → (token : Terminal) × SpellsAlone truth token tree
   pub direction : (tree : Direction) → (token : Terminal) × SpellsAlone direction token tree

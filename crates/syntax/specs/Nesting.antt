@@ -4,7 +4,7 @@
 -- operands and along lists, and calls itself for the rest, is at most this many calls deep. Parentheses leave no trace in a tree.
 -- Source: our own.
 use Rattle.std.specs.Prelude.{ℕ, pred, ◌<◌, Option, None, Some, All}
-use Rattle.syntax.specs.Tree.{ExpressionTree, IntegerTree, TruthTree, VariableTree, ElementTree, UnaryTree, BinaryTree, CallTree, RightTree, ReceivedTree, CalledTree, ValueTree, StatementTree, DeclareTree, DeclareArrayTree, AssignTree, AssignElementTree, CallTree', ReceiveTree, SendTree, IfTree, IfElseTree, WhileTree, BreakTree, ContinueTree, ThrowTree, ReturnTree, TryTree, NestedTree, BlockTree, BlockOf, StatementTrees, NoStatement, StatementThen, CatchTrees, NoCatch, CatchThen, ItemTree, ChannelItem, ExceptionItem, GlobalItem, ProcedureItem, ProgramTree}
+use Rattle.syntax.specs.Tree.{ExpressionTree, IntegerTree, TruthTree, VariableTree, ElementTree, UnaryTree, BinaryTree, CallTree, RightTree, ReceivedTree, CalledTree, ValueTree, StatementTree, DeclareTree, DeclareArrayTree, AssignTree, AssignElementTree, CallTree', ReceiveTree, SendTree, IfTree, WhileTree, BreakTree, ContinueTree, ThrowTree, ReturnTree, TryTree, NestedTree, BlockTree, BlockOf, StatementTrees, NoStatement, StatementThen, CatchTrees, NoCatch, CatchThen, ItemTree, ChannelItem, ExceptionItem, GlobalItem, ProcedureItem, ProgramTree}
 
 abbrev pub IsNestedExpression : (room : ℕ) → ExpressionTree → Type 0
 IsNestedExpression room (IntegerTree at value) = Unit {0}
@@ -37,8 +37,7 @@ abbrev mutual
   IsNestedStatement room (CallTree' call) = IsNestedCall room call
   IsNestedStatement room (ReceiveTree at channel) = Unit {0}
   IsNestedStatement room (SendTree at channel value) = IsNestedExpression room value
-  IsNestedStatement room (IfTree at condition body) = IsNestedExpression room condition × IsNestedBlock room body
-  IsNestedStatement room (IfElseTree at condition body otherwise) =
+  IsNestedStatement room (IfTree at condition body otherwise) =
       IsNestedExpression room condition × IsNestedBlock room body × IsNestedBlock room otherwise
   IsNestedStatement room (WhileTree at condition body) = IsNestedExpression room condition × IsNestedBlock room body
   IsNestedStatement room (BreakTree at) = Unit {0}

@@ -3,7 +3,7 @@
 -- numbers of nodes stay small where texts do.
 -- Source: our own.
 use Rattle.std.specs.Prelude.{ℕ, ◌+◌, Option, None, Some, length, sum_by}
-use Rattle.syntax.specs.Tree.{ComponentTree, PolicyComponent, VariableComponent, LabelTree, ExpressionTree, IntegerTree, TruthTree, VariableTree, ElementTree, UnaryTree, BinaryTree, CallTree, RightTree, ReceivedTree, CalledTree, ValueTree, StatementTree, DeclareTree, DeclareArrayTree, AssignTree, AssignElementTree, CallTree', ReceiveTree, SendTree, IfTree, IfElseTree, WhileTree, BreakTree, ContinueTree, ThrowTree, ReturnTree, TryTree, NestedTree, BlockTree, BlockOf, StatementTrees, NoStatement, StatementThen, CatchTrees, NoCatch, CatchThen, WrittenResultTree, NothingTree, ResultTree, ParameterTree, ThrownTree, ProcedureTree, ItemTree, ChannelItem, ExceptionItem, GlobalItem, ProcedureItem, ProgramTree}
+use Rattle.syntax.specs.Tree.{ComponentTree, PolicyComponent, VariableComponent, LabelTree, ExpressionTree, IntegerTree, TruthTree, VariableTree, ElementTree, UnaryTree, BinaryTree, CallTree, RightTree, ReceivedTree, CalledTree, ValueTree, StatementTree, DeclareTree, DeclareArrayTree, AssignTree, AssignElementTree, CallTree', ReceiveTree, SendTree, IfTree, WhileTree, BreakTree, ContinueTree, ThrowTree, ReturnTree, TryTree, NestedTree, BlockTree, BlockOf, StatementTrees, NoStatement, StatementThen, CatchTrees, NoCatch, CatchThen, WrittenResultTree, NothingTree, ResultTree, ParameterTree, ThrownTree, ProcedureTree, ItemTree, ChannelItem, ExceptionItem, GlobalItem, ProcedureItem, ProgramTree}
 
 -- a policy is a node beside its owner and its readers, a variable one together with its name
 abbrev pub component_nodes : ComponentTree → ℕ
@@ -46,8 +46,7 @@ abbrev mutual
   statement_nodes (CallTree' call) = 1 + call_nodes call
   statement_nodes (ReceiveTree at channel) = 2
   statement_nodes (SendTree at channel value) = 2 + expression_nodes value
-  statement_nodes (IfTree at condition body) = 1 + (expression_nodes condition + block_nodes body)
-  statement_nodes (IfElseTree at condition body otherwise) =
+  statement_nodes (IfTree at condition body otherwise) =
       1 + (expression_nodes condition + (block_nodes body + block_nodes otherwise))
   statement_nodes (WhileTree at condition body) = 1 + (expression_nodes condition + block_nodes body)
   statement_nodes (BreakTree at) = 1

@@ -7,7 +7,7 @@ use Rattle.syntax.specs.declared.tree.Component.{Component}
 use Rattle.syntax.specs.declared.tree.Component.TheVariants as components
 use Rattle.syntax.specs.declared.tree.WrittenLabel.{WrittenLabel}
 use Rattle.common.specs.declared.base_type.BaseType.{BaseType}
-use Rattle.syntax.specs.declared.tree.UnaryOperator.{UnaryOperator}
+use Rattle.common.specs.declared.operator.Prefix.{Prefix}
 use Rattle.syntax.specs.declared.tree.BinaryOperator.{BinaryOperator}
 use Rattle.syntax.specs.declared.tree.Expression as declared_expression
 use Rattle.syntax.specs.declared.tree.Expression.{Expression}
@@ -53,7 +53,7 @@ pub data ExpressionTree : Type 0 where
   TruthTree : (at : ℕ) → Bool → ExpressionTree
   VariableTree : NameTree → ExpressionTree
   ElementTree : NameTree → ExpressionTree → ExpressionTree
-  UnaryTree : (at : ℕ) → UnaryOperator → ExpressionTree → ExpressionTree
+  UnaryTree : (at : ℕ) → Prefix → ExpressionTree → ExpressionTree
   BinaryTree : (at : ℕ) → BinaryOperator → ExpressionTree → ExpressionTree → ExpressionTree
 
 pub record CallTree : Type 0 where
@@ -79,8 +79,7 @@ mutual
     CallTree' : CallTree → StatementTree
     ReceiveTree : (at : ℕ) → NameTree → StatementTree
     SendTree : (at : ℕ) → NameTree → ExpressionTree → StatementTree
-    IfTree : (at : ℕ) → ExpressionTree → BlockTree → StatementTree
-    IfElseTree : (at : ℕ) → ExpressionTree → BlockTree → BlockTree → StatementTree
+    IfTree : (at : ℕ) → ExpressionTree → BlockTree → (otherwise : BlockTree) → StatementTree
     WhileTree : (at : ℕ) → ExpressionTree → BlockTree → StatementTree
     BreakTree : (at : ℕ) → StatementTree
     ContinueTree : (at : ℕ) → StatementTree
@@ -182,8 +181,7 @@ statement_at (AssignElementTree array index value) = array.at
 statement_at (CallTree' call) = call.procedure.at
 statement_at (ReceiveTree at channel) = at
 statement_at (SendTree at channel value) = at
-statement_at (IfTree at condition body) = at
-statement_at (IfElseTree at condition body otherwise) = at
+statement_at (IfTree at condition body otherwise) = at
 statement_at (WhileTree at condition body) = at
 statement_at (BreakTree at) = at
 statement_at (ContinueTree at) = at
@@ -241,9 +239,9 @@ right_tree (right_sides.Value value) = ValueTree (expression_tree value)
 abbrev pub size_tree : Size → SizeTree
 size_tree size = record { at = size.at; size = size.size }
 
--- with an `else` or without
+-- without an `else` the other block is empty, and stands where the statement does
 abbrev pub if_tree : (at : ℕ) → ExpressionTree → BlockTree → Option BlockTree → StatementTree
-if_tree at condition body otherwise = unwrap_or (option_map (IfElseTree at condition body) otherwise) (IfTree at condition body)
+if_tree at condition body otherwise = IfTree at condition body (unwrap_or otherwise (BlockOf at NoStatement))
 
 abbrev mutual
   pub statement_tree : Statement → StatementTree

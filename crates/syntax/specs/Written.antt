@@ -4,7 +4,7 @@
 use Rattle.std.specs.Prelude.{ℕ, ◌≤◌, List, Option, None, Some, length, IsTrue, All}
 use Rattle.common.specs.declared.limits.TheConstants.{MAX_INTEGER}
 use Rattle.lexer.specs.Words.{is_name_text}
-use Rattle.syntax.specs.Tree.{NameTree, ComponentTree, PolicyComponent, VariableComponent, LabelTree, ExpressionTree, IntegerTree, TruthTree, VariableTree, ElementTree, UnaryTree, BinaryTree, CallTree, RightTree, ReceivedTree, CalledTree, ValueTree, SizeTree, StatementTree, DeclareTree, DeclareArrayTree, AssignTree, AssignElementTree, CallTree', ReceiveTree, SendTree, IfTree, IfElseTree, WhileTree, BreakTree, ContinueTree, ThrowTree, ReturnTree, TryTree, NestedTree, BlockTree, BlockOf, StatementTrees, NoStatement, StatementThen, CatchTrees, NoCatch, CatchThen, ChannelTree, ConstantTree, IntegerConstant, TruthConstant, GlobalValueTree, ScalarTree, ArrayTree, GlobalTree, WrittenResultTree, NothingTree, ResultTree, ParameterTree, ThrownTree, ProcedureTree, ItemTree, ChannelItem, ExceptionItem, GlobalItem, ProcedureItem, ProgramTree}
+use Rattle.syntax.specs.Tree.{NameTree, ComponentTree, PolicyComponent, VariableComponent, LabelTree, ExpressionTree, IntegerTree, TruthTree, VariableTree, ElementTree, UnaryTree, BinaryTree, CallTree, RightTree, ReceivedTree, CalledTree, ValueTree, SizeTree, StatementTree, DeclareTree, DeclareArrayTree, AssignTree, AssignElementTree, CallTree', ReceiveTree, SendTree, IfTree, WhileTree, BreakTree, ContinueTree, ThrowTree, ReturnTree, TryTree, NestedTree, BlockTree, BlockOf, StatementTrees, NoStatement, StatementThen, CatchTrees, NoCatch, CatchThen, ChannelTree, ConstantTree, IntegerConstant, TruthConstant, GlobalValueTree, ScalarTree, ArrayTree, GlobalTree, WrittenResultTree, NothingTree, ResultTree, ParameterTree, ThrownTree, ProcedureTree, ItemTree, ChannelItem, ExceptionItem, GlobalItem, ProcedureItem, ProgramTree}
 
 -- no place is refused
 abbrev pub Anywhere : ℕ → Type 0
@@ -69,8 +69,7 @@ module _ (fits : ℕ → Type 0) (word : List ℕ → Type 0) (number : ℕ → 
     IsWrittenStatement (CallTree' call) = IsWrittenCall call
     IsWrittenStatement (ReceiveTree at channel) = fits at × IsWrittenName channel
     IsWrittenStatement (SendTree at channel value) = fits at × IsWrittenName channel × IsWrittenExpression value
-    IsWrittenStatement (IfTree at condition body) = fits at × IsWrittenExpression condition × IsWrittenBlock body
-    IsWrittenStatement (IfElseTree at condition body otherwise) =
+    IsWrittenStatement (IfTree at condition body otherwise) =
         fits at × IsWrittenExpression condition × IsWrittenBlock body × IsWrittenBlock otherwise
     IsWrittenStatement (WhileTree at condition body) = fits at × IsWrittenExpression condition × IsWrittenBlock body
     IsWrittenStatement (BreakTree at) = fits at

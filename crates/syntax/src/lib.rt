@@ -10,5 +10,5 @@ pub use program::Program;
 pub use tree::{
     BinaryOperator, Block, Call, Catch, Channel, Component, Constant, Expression, GlobalValue,
     GlobalVariable, Item, Name, Parameter, Procedure, RightSide, Size, Statement, Thrown,
-    UnaryOperator, WrittenLabel, WrittenResult,
+    WrittenLabel, WrittenResult,
 };

@@ -1,3 +1,5 @@
+use common::Connective;
+
 /// A line of binary operators. Those of an earlier line bind tighter.
 #[derive(Clone, Copy, Debug, PartialEq, Eq)]
 pub enum Line {
@@ -17,8 +19,6 @@ pub enum Line {
     BitXor,
     /// `|`
     BitOr,
-    /// `&&`
-    Conjunction,
-    /// `||`
-    Disjunction,
+    /// `&&`, and on another line `||`
+    Connected(Connective),
 }

@@ -4,7 +4,7 @@
 ghost use Rattle.std.specs.Prelude.{◌≡◌, map};
 ghost use Rattle.syntax.specs.Tree.{expression_tree, expression_at, statement_tree, statement_at, item_tree, item_at, block_tree, optional_block_tree, catch_tree, catches_of, if_tree, WhileTree, TryTree, NestedTree};
 
-use common::{BaseType, Direction};
+use common::{Arithmetic, BaseType, Comparison, Connective, Direction, Prefix};
 
 /// A name, which is a slice of the source, and where it stands.
 #[derive(Clone, Copy, Debug)]
@@ -32,37 +32,12 @@ pub struct WrittenLabel<'a> {
     pub components: Vec<Component<'a>>,
 }
 
-/// What a unary operator does.
-#[derive(Clone, Copy, Debug, PartialEq, Eq)]
-pub enum UnaryOperator {
-    /// `-`
-    Negate,
-    /// `!`
-    Not,
-}
-
-/// What a binary operator does.
+/// An operator between its operands.
 #[derive(Clone, Copy, Debug, PartialEq, Eq)]
 pub enum BinaryOperator {
-    Multiply,
-    Divide,
-    Remainder,
-    Add,
-    Subtract,
-    LessThan,
-    AtMost,
-    GreaterThan,
-    AtLeast,
-    EqualTo,
-    NotEqualTo,
-    And,
-    Or,
-    BitAnd,
-    BitOr,
-    BitXor,
-    ShiftLeft,
-    ShiftRight,
-    ShiftRightUnsigned,
+    Compute(Arithmetic),
+    Compare(Comparison),
+    Connect(Connective),
 }
 
 /// An expression. Parentheses leave no trace.
@@ -83,7 +58,7 @@ pub enum Expression<'a> {
     },
     Unary {
         at: usize,
-        operator: UnaryOperator,
+        operator: Prefix,
         operand: Box<Expression<'a>>,
     },
     /// It begins where its left operand does.

@@ -1,7 +1,7 @@
-//! The number and the words of each refusal.
+//! The words that faults are printed as.
 
+use crate::printed::is_printed;
 use bytecode::FormatRefusal;
-use channels::WorldRefusalKind;
 use common::{OrNoMemory, Reported};
 use host::{HostFault, HostRefusal};
 use machine::NewRefusal;
@@ -10,71 +10,18 @@ use std::test::Fail;
 use verifier::{CodeRefusal, CodeRefusalKind, LoadRefusal};
 
 #[test]
-fn refusals_of_bytes(rt: HostRuntime) {
-    for (kind, number, words) in [
-        (FormatRefusalKind::Magic, 801, "magic"),
-        (FormatRefusalKind::Version, 802, "version"),
-        (FormatRefusalKind::Short, 803, "short"),
-        (FormatRefusalKind::BadValue, 804, "bad value"),
-        (FormatRefusalKind::NotCanonical, 805, "not canonical"),
-        (FormatRefusalKind::Trailing, 806, "trailing bytes"),
-    ] {
-        assert!(rt;
-            kind.number() == number && kind.words() == words,
-            "{number}"
-        );
-    }
-}
-
-#[test]
-fn refusals_of_code(rt: HostRuntime) {
-    for (kind, number, words) in [
-        (CodeRefusalKind::Jump, 811, "jump"),
-        (CodeRefusalKind::OperandKind, 812, "operand kind"),
-        (CodeRefusalKind::OperandDepth, 813, "operand depth"),
-        (CodeRefusalKind::SlotOrIndex, 814, "slot or index"),
-        (CodeRefusalKind::FallsOffEnd, 815, "falls off the end"),
-    ] {
-        assert!(rt;
-            kind.number() == number && kind.words() == words,
-            "{number}"
-        );
-    }
-}
-
-#[test]
-fn refusals_of_worlds(rt: HostRuntime) {
-    for (kind, number, words) in [
-        (WorldRefusalKind::Syntax, 851, "syntax"),
-        (WorldRefusalKind::UnknownChannel, 852, "unknown channel"),
-        (WorldRefusalKind::RepeatedChannel, 853, "repeated channel"),
-        (
-            WorldRefusalKind::NumberOutOfRange,
-            854,
-            "number out of range",
-        ),
-    ] {
-        assert!(rt;
-            kind.number() == number && kind.words() == words,
-            "{number}"
-        );
-    }
-}
-
-#[test]
 fn the_refusal_of_a_machine(rt: HostRuntime) -> Result<(), Fail> {
-    let refusal = NewRefusal::UnknownChannel;
-    assert!(rt; refusal.number() == 852 && refusal.words() == "unknown channel");
-    let printed = format!(in rt.alloc(); "{refusal}")?;
-    assert!(rt; printed.as_str() == "unknown channel");
+    let (refusal, words) = (NewRefusal::UnknownChannel, "unknown channel");
+    assert!(rt; refusal.number() == 852 && refusal.words() == words);
+    assert!(rt; is_printed(rt.alloc(), &refusal, words)?);
     Ok(())
 }
 
 #[test]
-fn refusals_of_a_host(rt: HostRuntime) -> Result<(), Fail> {
+fn the_faults_of_a_host(rt: HostRuntime) -> Result<(), Fail> {
     let in_bytes = FormatRefusal {
         kind: FormatRefusalKind::Trailing,
-        offset: 9,
+        at: 9,
     };
     let in_code = CodeRefusal {
         kind: CodeRefusalKind::FallsOffEnd,
@@ -106,17 +53,9 @@ fn refusals_of_a_host(rt: HostRuntime) -> Result<(), Fail> {
             refusal.number() == number && refusal.words() == words,
             "{words}"
         );
-        let fault = OrNoMemory::Refused(refusal);
-        let printed = format!(in rt.alloc(); "{fault}")?;
-        assert!(rt; printed.as_str() == words);
+        assert!(rt; is_printed(rt.alloc(), &OrNoMemory::Refused(refusal), words)?);
     }
-    Ok(())
-}
-
-#[test]
-fn a_host_out_of_memory(rt: HostRuntime) -> Result<(), Fail> {
     let fault: HostFault = OrNoMemory::NoMemory;
-    let printed = format!(in rt.alloc(); "{fault}")?;
-    assert!(rt; printed.as_str() == "no memory");
+    assert!(rt; is_printed(rt.alloc(), &fault, "no memory")?);
     Ok(())
 }

@@ -1,12 +1,15 @@
 //! Modules that are read and written again, and what they lend.
 
+use crate::printed::is_printed;
 use bytecode::{decode, encode, laws};
-use channels::{Device, SinkFault};
-use common::{BaseType, Direction, OrNoMemory};
+use channels::{Device, SinkFault, ViewFault};
+use common::{
+    Arithmetic, BaseType, BitOperator, Comparison, Direction, OrNoMemory, Order, Sameness,
+};
 use listing::write_listing;
 use modules::{
-    Arithmetic, Cell, Comparison, Global, Handler, Instruction, MachineOperator, Module, Procedure,
-    Slot, Storage, Version,
+    Cell, Channel, Global, Handler, Instruction, MachineOperator, Module, Procedure, Slot, Storage,
+    Version,
 };
 use std::alloc::Global as Heap;
 use std::io::Cursor;
@@ -67,6 +70,13 @@ fn the_laws_are_called(_rt: HostRuntime) {
     verifier::safety::positions_stand_for_their_offsets();
 }
 
+// Whether a module that is read from bytes is written as the same bytes.
+fn is_written_again(alloc: Heap, bytes: &[u8]) -> Result<bool, Fail> {
+    let module = decode(alloc, bytes)?;
+    let written = encode(alloc, &module)?;
+    Ok(written.as_slice() == bytes)
+}
+
 #[test]
 fn writes_what_it_read(rt: HostRuntime) -> Result<(), Fail> {
     let files = [
@@ -76,22 +86,25 @@ fn writes_what_it_read(rt: HostRuntime) -> Result<(), Fail> {
         MANY.as_slice(),
     ];
     for bytes in files {
-        let module = decode(rt.alloc(), bytes)?;
-        let written = encode(rt.alloc(), &module)?;
-        assert!(rt; written.as_slice() == bytes);
+        assert!(rt; is_written_again(rt.alloc(), bytes)?);
     }
     Ok(())
 }
 
+// Whether bytes are a module of this version.
+fn has_version(alloc: Heap, bytes: &[u8], version: Version) -> Result<bool, Fail> {
+    let module = decode(alloc, bytes)?;
+    Ok(module.version() == version)
+}
+
 #[test]
 fn keeps_the_version(rt: HostRuntime) -> Result<(), Fail> {
-    let one = decode(rt.alloc(), &SENDS)?;
-    assert!(rt; one.version() == Version::One && one.version().number() == 1);
-    let mut later = SENDS;
-    later[7] = 2;
-    let two = decode(rt.alloc(), &later)?;
-    assert!(rt; two.version() == Version::Two && two.version().number() == 2);
-    assert!(rt; encode(rt.alloc(), &two)?.as_slice() == later.as_slice());
+    for (byte, number, version) in [(1, 1, Version::One), (2, 2, Version::Two)] {
+        let mut bytes = SENDS;
+        bytes[7] = byte;
+        assert!(rt; version.number() == number && has_version(rt.alloc(), &bytes, version)?);
+        assert!(rt; is_written_again(rt.alloc(), &bytes)?);
+    }
     Ok(())
 }
 
@@ -103,16 +116,16 @@ fn counts_of(module: &Module) -> [usize; 5] {
     [exceptions, globals, channels, procedures, start]
 }
 
-#[test]
-fn lends_its_lists(rt: HostRuntime) -> Result<(), Fail> {
-    let module = decode(rt.alloc(), &SENDS)?;
-    assert_eq!(rt; counts_of(&module), [0, 0, 1, 1, 0]);
-    assert_eq!(rt; module.hierarchy().count(), 0);
-    for channel in module.channels() {
-        assert!(rt; channel.name() == "pub" && channel.direction() == Direction::Output);
-        assert!(rt; channel.label().is_empty());
+// Whether a module has no principal, and the lists of the first module.
+fn has_one_output(module: &Module) -> bool {
+    if counts_of(module) != [0, 0, 1, 1, 0] || module.hierarchy().count() != 0 {
+        return false;
     }
-    Ok(())
+    let [channel] = module.channels() else {
+        return false;
+    };
+    let is_output = channel.name() == "pub" && channel.direction() == Direction::Output;
+    is_output && channel.label().is_empty()
 }
 
 // Whether a procedure has no value, parameter, slot and handler, and this code of the first module.
@@ -131,80 +144,97 @@ fn sends_seven(procedure: &Procedure) -> bool {
     plain && bare && is_wanted && code.iter().map(|one| one.width()).max() == Some(5)
 }
 
+// Whether a module has one procedure, that of the first module.
+fn has_its_code(module: &Module) -> bool {
+    let [procedure] = module.procedures() else {
+        return false;
+    };
+    sends_seven(procedure)
+}
+
 #[test]
-fn lends_its_code(rt: HostRuntime) -> Result<(), Fail> {
+fn lends_its_lists_and_its_code(rt: HostRuntime) -> Result<(), Fail> {
     let module = decode(rt.alloc(), &SENDS)?;
-    for procedure in module.procedures() {
-        assert!(rt; sends_seven(procedure));
-    }
+    assert!(rt; has_one_output(&module) && has_its_code(&module));
     Ok(())
 }
 
-// Whether a procedure has one slot, and this code of the second module.
-fn sends_fewer(procedure: &Procedure) -> bool {
-    let is_wanted = matches!(
-        procedure.code(),
-        [
-            Instruction::Receive(0),
-            Instruction::Store(Storage::Local, 0),
-            Instruction::Load(Storage::Local, 0),
-            Instruction::Push(-43),
-            Instruction::Operate(MachineOperator::Compute(Arithmetic::Add)),
-            Instruction::Send(1),
-            Instruction::Return
-        ]
-    );
+// Whether the label of a channel has two policies, one for B and C and one of B.
+fn has_two_policies(channel: &Channel) -> bool {
+    let [first, second] = channel.label().policies() else {
+        return false;
+    };
+    first.readers() == [1, 2].as_slice() && second.owner() == 1
+}
+
+// Whether the names, pairs, channels and slots of a module are those of the third one.
+fn has_names_and_labels(module: &Module) -> bool {
+    let hierarchy = module.hierarchy();
+    if hierarchy.name(2) != Some("C") || hierarchy.pairs() != [(2, 0), (2, 1)].as_slice() {
+        return false;
+    }
+    let ([input, output], [procedure]) = (module.channels(), module.procedures()) else {
+        return false;
+    };
     let slots = [Slot::Scalar(BaseType::Int)];
-    is_wanted && procedure.slots() == slots.as_slice()
+    let is_named = input.direction() == Direction::Input && output.name() == "p";
+    is_named && has_two_policies(output) && procedure.slots() == slots.as_slice()
 }
 
 #[test]
 fn lends_names_and_labels(rt: HostRuntime) -> Result<(), Fail> {
     let module = decode(rt.alloc(), &THREE)?;
-    assert!(rt; module.hierarchy().name(2) == Some("C"));
-    assert_eq!(rt; module.hierarchy().pairs(), [(2, 0), (2, 1)].as_slice());
-    for procedure in module.procedures() {
-        assert!(rt; sends_fewer(procedure));
-    }
-    let [input, output] = module.channels() else {
-        return Err("two channels".into());
-    };
-    assert!(rt; input.direction() == Direction::Input && output.name() == "p");
-    let [first, second] = output.label().policies() else {
-        return Err("two policies".into());
-    };
-    assert_eq!(rt; first.readers(), [1, 2].as_slice());
-    assert_eq!(rt; second.owner(), 1);
+    assert!(rt; has_names_and_labels(&module));
     Ok(())
 }
 
-#[test]
-fn lends_globals_and_handlers(rt: HostRuntime) -> Result<(), Fail> {
-    let module = decode(rt.alloc(), &MANY)?;
-    assert_eq!(rt; counts_of(&module), [1, 4, 2, 3, 0]);
-    let globals = [
+// Whether these are the globals of the last module.
+fn are_four(globals: &[Global]) -> bool {
+    let four = [
         Global::Int(-7),
         Global::Boolean(true),
         Global::Array(BaseType::Int, 3),
         Global::Array(BaseType::Boolean, 2),
     ];
-    assert!(rt; module.globals() == globals.as_slice());
-    let [main, first, second] = module.procedures() else {
-        return Err("three procedures".into());
-    };
+    globals == four.as_slice()
+}
+
+// Whether a procedure has the slots and the handler of the last module's first one.
+fn has_a_handler(procedure: &Procedure) -> bool {
     let slots = [
         Slot::Scalar(BaseType::Boolean),
         Slot::Array(BaseType::Int, 2),
     ];
-    let handler = Handler {
+    let handlers = [Handler {
         start: 0,
         end: 2,
         exception: 3,
         target: 7,
+    }];
+    procedure.slots() == slots.as_slice() && procedure.handlers() == handlers.as_slice()
+}
+
+// Whether a procedure has so many parameters, and returns a value of this type.
+fn returns(procedure: &Procedure, parameters: u32, returned: BaseType) -> bool {
+    procedure.parameters() == parameters && procedure.returned() == Some(returned)
+}
+
+// Whether the globals, slots and handlers of a module are those of the last one.
+fn has_globals_and_handlers(module: &Module) -> bool {
+    if counts_of(module) != [1, 4, 2, 3, 0] || !are_four(module.globals()) {
+        return false;
+    }
+    let [main, first, second] = module.procedures() else {
+        return false;
     };
-    assert!(rt; main.slots() == slots.as_slice() && main.handlers() == [handler].as_slice());
-    assert!(rt; first.parameters() == 1 && first.returned() == Some(BaseType::Int));
-    assert!(rt; second.parameters() == 0 && second.returned() == Some(BaseType::Boolean));
+    let are_values = returns(first, 1, BaseType::Int) && returns(second, 0, BaseType::Boolean);
+    has_a_handler(main) && are_values
+}
+
+#[test]
+fn lends_globals_and_handlers(rt: HostRuntime) -> Result<(), Fail> {
+    let module = decode(rt.alloc(), &MANY)?;
+    assert!(rt; has_globals_and_handlers(&module));
     Ok(())
 }
 
@@ -224,41 +254,49 @@ fn prints_names_and_operands(rt: HostRuntime) -> Result<(), Fail> {
             "REM",
         ),
         (
-            Instruction::Operate(MachineOperator::Compute(Arithmetic::BitAnd)),
+            Instruction::Operate(MachineOperator::Compute(Arithmetic::Bits(BitOperator::BitAnd))),
             "AND",
         ),
         (
-            Instruction::Operate(MachineOperator::Compute(Arithmetic::BitOr)),
+            Instruction::Operate(MachineOperator::Compute(Arithmetic::Bits(BitOperator::BitOr))),
             "OR",
         ),
         (
-            Instruction::Operate(MachineOperator::Compute(Arithmetic::BitXor)),
+            Instruction::Operate(MachineOperator::Compute(Arithmetic::Bits(BitOperator::BitXor))),
             "XOR",
         ),
         (
-            Instruction::Operate(MachineOperator::Compute(Arithmetic::ShiftLeft)),
+            Instruction::Operate(MachineOperator::Compute(Arithmetic::Bits(
+                BitOperator::ShiftLeft,
+            ))),
             "SHL",
         ),
         (
-            Instruction::Operate(MachineOperator::Compute(Arithmetic::ShiftRight)),
+            Instruction::Operate(MachineOperator::Compute(Arithmetic::Bits(
+                BitOperator::ShiftRight,
+            ))),
             "SHR",
         ),
         (
-            Instruction::Operate(MachineOperator::Compute(Arithmetic::ShiftRightUnsigned)),
+            Instruction::Operate(MachineOperator::Compute(Arithmetic::Bits(
+                BitOperator::ShiftRightUnsigned,
+            ))),
             "USHR",
         ),
         (
-            Instruction::Operate(MachineOperator::Compare(Comparison::AtMost)),
+            Instruction::Operate(MachineOperator::Compare(Comparison::Ordered(Order::AtMost))),
             "LE",
         ),
-        (Instruction::Operate(MachineOperator::OtherBoolean), "BNE"),
+        (
+            Instruction::Operate(MachineOperator::Match(Sameness::Different)),
+            "BNE",
+        ),
         (Instruction::JumpIfFalse(10), "JFALSE 10"),
         (Instruction::ReturnValue, "RETV"),
         (Instruction::Throw(3), "THROW 3"),
     ];
     for (instruction, text) in printed {
-        let printed = format!(in rt.alloc(); "{instruction}")?;
-        assert!(rt; printed.as_str() == text);
+        assert!(rt; is_printed(rt.alloc(), &instruction, text)?, "{text}");
     }
     Ok(())
 }
@@ -274,45 +312,19 @@ fn values_have_kinds(rt: HostRuntime) {
     );
 }
 
-// What the module is listed as that some bytes spell.
-fn listing_of(alloc: Heap, bytes: &[u8]) -> Result<Vec<u8>, Fail> {
-    let module = decode(alloc, bytes)?;
-    let mut device = Device::new(Vec::new(alloc));
-    write_listing(alloc, &module, &mut device)?;
-    Ok(device.into_inner())
-}
-
-#[test]
-fn lists_labels_and_operands(rt: HostRuntime) -> Result<(), Fail> {
-    let listing = listing_of(rt.alloc(), &THREE)?;
-    let lines = "input q {}\noutput p {A: B, C; B:}\nproc 0\n\
-                 00000000 RECV 0\n00000005 STORE 0\n0000000a LOAD 0\n0000000f PUSH -43\n\
-                 00000014 ADD\n00000015 SEND 1\n0000001a RET\n";
-    assert_eq!(rt; listing.as_slice(), lines.as_bytes());
-    Ok(())
-}
-
-#[test]
-fn lists_procedures_and_handlers(rt: HostRuntime) -> Result<(), Fail> {
-    let listing = listing_of(rt.alloc(), &MANY)?;
-    let lines = "input q {}\noutput p {}\n\
-                 proc 0\n00000000 PUSHB true\n00000002 STORE 0\n00000007 RET\nhandler 0 2 3 7\n\
-                 proc 1\n00000000 LOAD 0\n00000005 NEG\n00000006 RETV\n\
-                 proc 2\n00000000 PUSHB false\n00000002 RETV\n";
-    assert_eq!(rt; listing.as_slice(), lines.as_bytes());
-    Ok(())
+// What is listed of the first module where there is room for four bytes, and how listing it ends.
+fn listed_in_four(alloc: Heap) -> Result<([u8; 4], Result<(), ViewFault>), Fail> {
+    let module = decode(alloc, &SENDS)?;
+    let mut device = Device::new(Cursor::new([0u8; 4]));
+    let listed = write_listing(alloc, &module, &mut device);
+    Ok((device.into_inner().into_inner(), listed))
 }
 
 // A sink with room for four bytes takes the first four.
 #[test]
 fn lists_up_to_a_failure(rt: HostRuntime) -> Result<(), Fail> {
-    let module = decode(rt.alloc(), &SENDS)?;
-    let mut device = Device::new(Cursor::new([0u8; 4]));
-    let listed = write_listing(rt.alloc(), &module, &mut device);
+    let (bytes, listed) = listed_in_four(rt.alloc())?;
     assert_eq!(rt; listed, Err(OrNoMemory::Refused(SinkFault)));
-    assert_eq!(rt;
-        device.into_inner().into_inner().as_slice(),
-        b"outp".as_slice()
-    );
+    assert_eq!(rt; bytes, *b"outp");
     Ok(())
 }

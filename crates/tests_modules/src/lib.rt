@@ -8,6 +8,8 @@ mod files;
 #[cfg(test)]
 mod hosts;
 #[cfg(test)]
+mod printed;
+#[cfg(test)]
 mod runs;
 #[cfg(test)]
 mod sinks;

@@ -126,66 +126,88 @@ fn a_changed_byte_is_refused_or_runs(rt: HostRuntime) -> Result<(), Fail> {
     Ok(())
 }
 
+// Whether a run takes these steps, and stands so after each call.
+fn counts(machine: &mut Machine, calls: &[(u64, u64, Status)]) -> bool {
+    for (steps, taken, status) in calls {
+        if machine.run(*steps) != (*taken, *status) {
+            return false;
+        }
+    }
+    true
+}
+
+// Whether a run has sent 7 alone, on the one channel of its module.
+fn has_sent_seven(machine: &Machine) -> bool {
+    let (channel, number) = (0, 7);
+    let is_alone = machine.module().channels().len() == 1;
+    is_alone && machine.sent().pairs() == [Pair { channel, number }].as_slice()
+}
+
 #[test]
 fn counts_its_steps(rt: HostRuntime) -> Result<(), Fail> {
     let mut machine = machine_of(rt.alloc(), &SENDS).ok_or("no machine")?;
-    assert_eq!(rt; machine.module().channels().len(), 1);
-    for (steps, taken, status) in [
+    let calls: [(u64, u64, Status); 5] = [
         (0, 0, Status::Running),
         (2, 2, Status::Running),
         (5, 1, Status::Finished),
         (5, 0, Status::Finished),
         (0, 0, Status::Finished),
-    ] {
-        assert_eq!(rt; machine.run(steps), (taken, status));
-    }
-    let (channel, number) = (0, 7);
-    assert_eq!(rt;
-        machine.sent().pairs(),
-        [Pair { channel, number }].as_slice()
-    );
+    ];
+    assert!(rt; counts(&mut machine, &calls) && has_sent_seven(&machine));
     Ok(())
+}
+
+// Whether a run takes as many steps as it is asked for, stands so then, and lends these values.
+fn lends(machine: &mut Machine, steps: u64, status: Status, cells: &[Cell]) -> bool {
+    let is_counted = machine.run(steps) == (steps, status);
+    is_counted && machine.slab() == cells && machine.cells() == cells.len() as u64
+}
+
+// SEND takes the operand, and the run goes on.
+fn lends_its_operand(machine: &mut Machine) -> bool {
+    let one = [Cell::Int(7)];
+    lends(machine, 0, Status::Running, &[])
+        && lends(machine, 1, Status::Running, &one)
+        && lends(machine, 1, Status::Running, &[])
+        && lends(machine, 1, Status::Finished, &[])
+}
+
+// Before the first step the slots are there, an array element by element.
+fn lends_its_slots(machine: &mut Machine) -> bool {
+    let slots = [Cell::Int(0); 11];
+    lends(machine, 0, Status::Running, &slots) && lends(machine, 3, Status::Finished, &[])
 }
 
 #[test]
 fn lends_the_values_of_its_frames(rt: HostRuntime) -> Result<(), Fail> {
     let mut machine = machine_of(rt.alloc(), &SENDS).ok_or("no machine")?;
-    assert_eq!(rt; machine.slab().len(), 0);
-    assert_eq!(rt; machine.run(1), (1, Status::Running));
-    assert_eq!(rt; machine.slab(), [Cell::Int(7)].as_slice());
-    assert_eq!(rt; machine.cells(), 1);
-    // SEND took the operand, and the run goes on.
-    assert_eq!(rt; machine.run(1), (1, Status::Running));
-    assert_eq!(rt; machine.slab().len(), 0);
-    assert_eq!(rt; machine.cells(), 0);
-    assert_eq!(rt; machine.run(1), (1, Status::Finished));
-    assert_eq!(rt; machine.cells(), 0);
+    assert!(rt; lends_its_operand(&mut machine));
     Ok(())
 }
 
-// Before the first step the slots are there, an array element by element.
 #[test]
 fn lends_all_slots_of_the_first_frame(rt: HostRuntime) -> Result<(), Fail> {
     let mut machine = machine_of(rt.alloc(), &SLOTS).ok_or("no machine")?;
-    assert_eq!(rt; machine.cells(), 11);
-    assert_eq!(rt; machine.slab(), [Cell::Int(0); 11].as_slice());
-    assert_eq!(rt; machine.run(3), (3, Status::Finished));
-    assert_eq!(rt; machine.cells(), 0);
+    assert!(rt; lends_its_slots(&mut machine));
     Ok(())
+}
+
+// Whether a run ends with its third step, at once or, where memory ran out, by a second call, and has sent once then.
+fn ends_at_once_or_again(machine: &mut Machine) -> bool {
+    let (taken, status) = machine.run(5);
+    if status == Status::NoMemory {
+        let is_unchanged = taken < 2 && machine.sent().pairs().is_empty();
+        is_unchanged && machine.run(5) == (3 - taken, Status::Finished)
+    } else {
+        taken == 3 && status == Status::Finished
+    }
 }
 
 // A step for which memory runs out changes nothing, and is taken by the next call.
 #[test]
 fn tries_a_refused_step_again(rt: HostRuntime) -> Result<(), Fail> {
     let mut machine = machine_of(rt.alloc(), &SENDS).ok_or("no machine")?;
-    let (taken, status) = machine.run(5);
-    if status == Status::NoMemory {
-        assert!(rt; taken < 2 && machine.sent().pairs().is_empty());
-        assert_eq!(rt; machine.run(5), (3 - taken, Status::Finished));
-    } else {
-        assert_eq!(rt; (taken, status), (3, Status::Finished));
-    }
-    assert_eq!(rt; machine.sent().pairs().len(), 1);
+    assert!(rt; ends_at_once_or_again(&mut machine) && has_sent_seven(&machine));
     Ok(())
 }
 
@@ -208,14 +230,18 @@ fn refuses_the_world_of_another_module(rt: HostRuntime) {
     assert_eq!(rt; fault, Some(refused));
 }
 
+// Whether a verified module lends its one procedure, and its code with the greatest depth of that.
+fn lends_its_code(verified: &Verified) -> bool {
+    if verified.module().procedures().len() != 1 || verified.greatest_depth(0) != 1 {
+        return false;
+    }
+    let code = verified.code(0);
+    code.len() == 3 && matches!(code[0], Instruction::Push(7))
+}
+
 #[test]
 fn a_verified_module_is_lent(rt: HostRuntime) -> Result<(), Fail> {
-    let module = decode(rt.alloc(), &SENDS)?;
-    let verified = verify(rt.alloc(), module)?;
-    assert_eq!(rt; verified.module().procedures().len(), 1);
-    let code = verified.code(0);
-    assert_eq!(rt; code.len(), 3);
-    assert!(rt; matches!(code[0], Instruction::Push(7)));
-    assert_eq!(rt; verified.greatest_depth(0), 1);
+    let verified = load(rt.alloc(), &SENDS)?;
+    assert!(rt; lends_its_code(&verified));
     Ok(())
 }

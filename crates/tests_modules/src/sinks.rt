@@ -23,9 +23,15 @@ fn are_inputs(inputs: &[InputList], first: &[i32], second: &[i32]) -> bool {
     q.name() == "q" && r.name() == "r" && q.numbers() == first && r.numbers() == second
 }
 
+// Whether a text is a world in which the inputs have these numbers.
+fn is_read(alloc: Global, text: &str, first: &[i32], second: &[i32]) -> Result<bool, Fail> {
+    let module = decode(alloc, &MODULE)?;
+    let world = World::read(alloc, &module, text)?;
+    Ok(are_inputs(world.inputs(), first, second))
+}
+
 #[test]
 fn reads_worlds(rt: HostRuntime) -> Result<(), Fail> {
-    let module = decode(rt.alloc(), &MODULE)?;
     let cases: [(&str, &[i32], &[i32]); 4] = [
         ("", &[], &[]),
         ("\n   \nr  =  -0 007 \n q =\n", &[], &[0, 7]),
@@ -37,8 +43,7 @@ fn reads_worlds(rt: HostRuntime) -> Result<(), Fail> {
         ("r = 1 2 3\nq = 4 5 6\n", &[4, 5, 6], &[1, 2, 3]),
     ];
     for (text, first, second) in cases {
-        let world = World::read(rt.alloc(), &module, text)?;
-        assert!(rt; are_inputs(world.inputs(), first, second), "{text}");
+        assert!(rt; is_read(rt.alloc(), text, first, second)?, "{text}");
     }
     Ok(())
 }
@@ -86,11 +91,17 @@ fn a_device_asks_for_nothing_after_a_failure(rt: HostRuntime) {
     }
 }
 
+// What a device over a list has after these bytes.
+fn written(alloc: Global, bytes: &[u8]) -> Result<Vec<u8>, SinkFault> {
+    let mut device = Device::new(Vec::new(alloc));
+    write_all(&mut device, bytes)?;
+    Ok(device.into_inner())
+}
+
 #[test]
 fn writes_all_where_there_is_room(rt: HostRuntime) -> Result<(), Fail> {
-    let mut device = Device::new(Vec::new(rt.alloc()));
-    write_all(&mut device, b"ok")?;
-    assert_eq!(rt; device.into_inner().as_slice(), b"ok".as_slice());
+    let bytes = written(rt.alloc(), b"ok")?;
+    assert_eq!(rt; bytes.as_slice(), b"ok".as_slice());
     let mut small = Device::new(Cursor::new([0u8; 1]));
     assert_eq!(rt; write_all(&mut small, b"ok"), Err(SinkFault));
     Ok(())
@@ -145,27 +156,38 @@ fn fills_its_room(alloc: Global, sent: &Sent, module: &Module, text: &[u8], room
     is_answered && sink.bytes.get(..sink.count) == text.get(..room)
 }
 
-#[test]
-fn a_view_ends_where_its_sink_fails(rt: HostRuntime) -> Result<(), Fail> {
-    let module = decode(rt.alloc(), &MODULE)?;
-    let mut sent = Sent::new(rt.alloc());
+// The first room for which a view does not end where its sink fails.
+fn wrong_room(alloc: Global, sent: &Sent, module: &Module) -> Option<usize> {
+    let text = b"pub 7\npub 8\n";
+    for room in 0..=text.len() {
+        if !fills_its_room(alloc, sent, module, text, room) {
+            return Some(room);
+        }
+    }
+    None
+}
+
+// A device without room takes no byte, which is a failure too.
+fn fails_without_room(alloc: Global, sent: &Sent, module: &Module) -> bool {
+    let mut device = Device::new(Cursor::new([0u8; 0]));
+    let viewed = write_view(alloc, sent, module, None, &mut device);
+    viewed == Err(OrNoMemory::Refused(SinkFault)) && device.failed()
+}
+
+// The list of 7 and 8, sent on the output.
+fn sent_twice(alloc: Global) -> Result<Sent, Fail> {
+    let mut sent = Sent::new(alloc);
     for number in [7, 8] {
         sent.push(Pair { channel: 1, number })?;
     }
-    let text = b"pub 7\npub 8\n";
-    for room in 0..=text.len() {
-        assert!(rt;
-            fills_its_room(rt.alloc(), &sent, &module, text, room),
-            "room for {room}"
-        );
-    }
-    // A device without room takes no byte, which is a failure too.
-    let mut device = Device::new(Cursor::new([0u8; 0]));
-    let refused = Err(OrNoMemory::Refused(SinkFault));
-    assert_eq!(rt;
-        write_view(rt.alloc(), &sent, &module, None, &mut device),
-        refused
-    );
-    assert!(rt; device.failed());
+    Ok(sent)
+}
+
+#[test]
+fn a_view_ends_where_its_sink_fails(rt: HostRuntime) -> Result<(), Fail> {
+    let module = decode(rt.alloc(), &MODULE)?;
+    let sent = sent_twice(rt.alloc())?;
+    assert_eq!(rt; wrong_room(rt.alloc(), &sent, &module), None);
+    assert!(rt; fails_without_room(rt.alloc(), &sent, &module));
     Ok(())
 }

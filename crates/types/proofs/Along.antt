@@ -13,7 +13,8 @@ use Rattle.resolved.specs.TreeOf.{statement_of, block_of, handlers_of}
 use Rattle.types.specs.declared.body.BodyScope.{BodyScope}
 use Rattle.common.specs.Answers.{IfRefused}
 use Rattle.common.specs.declared.fault.OrNoMemory.{OrNoMemory}
-use Rattle.types.specs.declared.fault.TypeRefusal.{TypeRefusal}
+use Rattle.common.specs.declared.refusal.RefusalAt.{RefusalAt}
+use Rattle.types.specs.declared.fault.TypeRefusalKind.{TypeRefusalKind}
 use Rattle.types.specs.Finding.{IsRefusalOf, Finding}
 use Rattle.types.specs.Environment.{use_as, item_of}
 use Rattle.types.specs.Statements.{Point, statement_finding, block_finding, statements_finding, catches_finding}
@@ -69,7 +70,7 @@ module _ {start now : BodyScope} {written : List Statement} {made : List S.State
     whole_is : and_then (statements_finding (setting_of start) (point_of now) (StatementThen (statement_tree statement) (statements_of (map statement_tree (drop (i + 1) written))))) (with_rest made) ≡ statements_finding (setting_of start) (point_of start) (statements_of (map statement_tree written))
     whole_is = subst (λ trees. and_then (statements_finding (setting_of start) (point_of now) trees) (with_rest made) ≡ statements_finding (setting_of start) (point_of start) (statements_of (map statement_tree written))) rest_is along.on
 
-    pub statement_wrong : (fault : OrNoMemory TypeRefusal) → IfRefused (IsRefusalOf (statement_finding (setting_of now) (point_of now) (statement_tree statement))) fault
+    pub statement_wrong : (fault : OrNoMemory (RefusalAt TypeRefusalKind)) → IfRefused (IsRefusalOf (statement_finding (setting_of now) (point_of now) (statement_tree statement))) fault
         → IfRefused (IsRefusalOf (statements_finding (setting_of start) (point_of start) (statements_of (map statement_tree written)))) fault
     unfolding statements_finding
     statement_wrong fault wrong =
@@ -144,13 +145,13 @@ module _ {start now : BodyScope} {written : List WrittenCatch} {made : List Hand
     all_are : and_then (catches_finding (setting_of start) (point_of now) (CatchThen one.at (name_tree one.exception) (block_tree one.body) (catches_of (map catch_tree (drop (i + 1) written))))) (with_handlers made) ≡ catches_finding (setting_of start) (point_of start) (catches_of (map catch_tree written))
     all_are = subst (λ trees. and_then (catches_finding (setting_of start) (point_of now) trees) (with_handlers made) ≡ catches_finding (setting_of start) (point_of start) (catches_of (map catch_tree written))) catches_are along.on
 
-    pub exception_wrong : (fault : OrNoMemory TypeRefusal) → IfRefused (IsRefusalOf (use_as (item_of Exception) (names_of now (name_tree one.exception).text) one.exception.at)) fault
+    pub exception_wrong : (fault : OrNoMemory (RefusalAt TypeRefusalKind)) → IfRefused (IsRefusalOf (use_as (item_of Exception) (names_of now (name_tree one.exception).text) one.exception.at)) fault
         → IfRefused (IsRefusalOf (catches_finding (setting_of start) (point_of start) (catches_of (map catch_tree written)))) fault
     unfolding catches_finding
     exception_wrong fault wrong = subst (λ found. IfRefused (IsRefusalOf found) fault) all_are (fails_later _ (with_handlers made) fault (fails_later _ _ fault wrong))
 
     module _ (number : ℕ) (found : use_as (item_of Exception) (names_of now (name_tree one.exception).text) one.exception.at ≡ Ok number) where
-      pub body_wrong : (fault : OrNoMemory TypeRefusal) → IfRefused (IsRefusalOf (block_finding (setting_of now) (point_of now) (block_tree one.body))) fault
+      pub body_wrong : (fault : OrNoMemory (RefusalAt TypeRefusalKind)) → IfRefused (IsRefusalOf (block_finding (setting_of now) (point_of now) (block_tree one.body))) fault
           → IfRefused (IsRefusalOf (catches_finding (setting_of start) (point_of start) (catches_of (map catch_tree written)))) fault
       unfolding catches_finding
       body_wrong fault wrong =

@@ -13,8 +13,10 @@ use Rattle.resolved.specs.declared.expression.Variable.TheVariants.{Global, Loca
 use Rattle.resolved.specs.Program.{Program, ChannelEntry, GlobalEntry, SlotEntry}
 use Rattle.types.specs.Environment.{use_as, variable_of}
 use Rattle.types.specs.declared.fault.TypeRefusalKind.TheVariants as refusals
-use Rattle.types.specs.Finding.{found_or, along, of_each, ◌>>=◌}
+use Rattle.common.specs.Results.{along, ◌>>=◌}
+use Rattle.types.specs.Finding.{found_or, of_each}
 use Rattle.types.specs.Labels.{LabelScope, principal_finding, policy_finding, variable_label_finding, component_finding, next_component, label_finding}
+use Rattle.types.proofs.NextItems.{next_channel, next_global}
 use Rattle.types.specs.Resolution.{TopLevel, heads, channel_finding, first_finding, global_finding, procedure_entry_finding, next_item, main_finding, resolution, empty_program, next_name, built_in, next_frame, next_global_cells}
 use Rattle.types.proofs.Passing.{then_finds, found_finds, any_finds}
 
@@ -84,16 +86,18 @@ module _ (h : PrincipalHierarchy) where
   item_canonical : (top : TopLevel) (tables : Program) (item : ItemTree) → HasCanonicalLabels tables → IfOk (next_item h top tables item) HasCanonicalLabels
   unfolding next_item channel_finding global_finding
   item_canonical top tables (ChannelItem channel) kept =
-      then_finds (channel_finding (heads h top tables.globals) channel) _ IsCanonicalChannel HasCanonicalLabels
+      subst (λ found. IfOk found (HasCanonicalLabels)) (sym (next_channel h top tables channel))
+      (then_finds (channel_finding (heads h top tables.globals) channel) _ IsCanonicalChannel HasCanonicalLabels
       (then_finds (label_finding (heads h top tables.globals) channel.label) _ IsCanonicalLabel IsCanonicalChannel
       (label_canonical (heads h top tables.globals) (λ number. all_there IsCanonicalGlobal tables.globals number kept.globals) refl channel.label) (λ label is. is))
       (λ entry is. record {
         channels = All-append IsCanonicalChannel tables.channels (entry ∷ []) kept.channels (All-cons IsCanonicalChannel entry [] is (All-nil IsCanonicalChannel));
         globals = kept.globals;
-      })
+      }))
   item_canonical top tables (ExceptionItem at name) kept = record { channels = kept.channels; globals = kept.globals }
   item_canonical top tables (GlobalItem global) kept =
-      then_finds (global_finding (heads h top tables.globals) global) _ IsCanonicalGlobal HasCanonicalLabels
+      subst (λ found. IfOk found (HasCanonicalLabels)) (sym (next_global h top tables global))
+      (then_finds (global_finding (heads h top tables.globals) global) _ IsCanonicalGlobal HasCanonicalLabels
       (then_finds (label_finding (heads h top tables.globals) global.label) _ IsCanonicalLabel IsCanonicalGlobal
       (label_canonical (heads h top tables.globals) (λ number. all_there IsCanonicalGlobal tables.globals number kept.globals) refl global.label) (λ label is.
       then_finds (first_finding global.base global.value) _ (λ one. Unit {0}) IsCanonicalGlobal (any_finds (first_finding global.base global.value))
@@ -101,7 +105,7 @@ module _ (h : PrincipalHierarchy) where
       (λ entry is. record {
         channels = kept.channels;
         globals = All-append IsCanonicalGlobal tables.globals (entry ∷ []) kept.globals (All-cons IsCanonicalGlobal entry [] is (All-nil IsCanonicalGlobal));
-      })
+      }))
   item_canonical top tables (ProcedureItem procedure) kept =
       then_finds (procedure_entry_finding (heads h top tables.globals) top.signatures procedure) _ (λ one. Unit {0}) HasCanonicalLabels
       (any_finds (procedure_entry_finding (heads h top tables.globals) top.signatures procedure))

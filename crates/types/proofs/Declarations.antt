@@ -11,7 +11,8 @@ use Rattle.resolved.specs.ProgramOf.{slot_entry}
 use Rattle.resolved.specs.Tree.{Statement, Clear}
 use Rattle.common.specs.Answers.{IfRefused}
 use Rattle.common.specs.declared.fault.OrNoMemory.{OrNoMemory}
-use Rattle.types.specs.declared.fault.TypeRefusal.{TypeRefusal}
+use Rattle.common.specs.declared.refusal.RefusalAt.{RefusalAt}
+use Rattle.types.specs.declared.fault.TypeRefusalKind.{TypeRefusalKind}
 use Rattle.types.specs.declared.scope.Meaning.{Meaning}
 use Rattle.types.specs.Finding.{IsRefusalOf, give}
 use Rattle.types.specs.Environment.{fresh_finding}
@@ -60,7 +61,7 @@ module _ (setting : Setting) (point : Point) (at : ℕ) (base : BaseType) (label
       ∙ ap (λ one. Ok (with_local point one, statement)) (sym entry)
       ∙ ap (λ one. Ok (one, statement)) (ok_inside _ _ declared)
 
-  pub scalar_refused : (value : RightTree) (fault : OrNoMemory TypeRefusal) → IfRefused (IsRefusalOf (assigned_finding setting.signatures point.names at (Local number) base value)) fault
+  pub scalar_refused : (value : RightTree) (fault : OrNoMemory (RefusalAt TypeRefusalKind)) → IfRefused (IsRefusalOf (assigned_finding setting.signatures point.names at (Local number) base value)) fault
       → IfRefused (IsRefusalOf (declare_finding setting point at base label name value)) fault
   unfolding statement_finding
   scalar_refused value fault wrong =

@@ -15,8 +15,10 @@ use Rattle.labels.proofs.Order.{policy_cmp-exact}
 use Rattle.labels.proofs.Written.{SameSet-written}
 use Rattle.syntax.specs.declared.tree.Component.{Component}
 use Rattle.syntax.specs.Tree.{NameTree, PolicyComponent, VariableComponent, LabelTree, component_tree}
-use Rattle.types.specs.declared.fault.TypeRefusal.{TypeRefusal}
-use Rattle.types.specs.Finding.{IsRefusalOf, along}
+use Rattle.common.specs.declared.refusal.RefusalAt.{RefusalAt}
+use Rattle.types.specs.declared.fault.TypeRefusalKind.{TypeRefusalKind}
+use Rattle.common.specs.Results.{along}
+use Rattle.types.specs.Finding.{IsRefusalOf}
 use Rattle.types.specs.Views.{and_then}
 use Rattle.types.specs.Labels.{LabelScope, policy_finding, component_finding, next_component, label_finding}
 use Rattle.types.specs.VariableEntries.{label_with}
@@ -95,7 +97,7 @@ module _ {scope : LabelScope} {labels : List Label} {written : List Component} {
           canonical = All-push IsCanonicalPolicy own policy gathers.canonical canonical;
         }
 
-    pub policy_wrong : (fault : OrNoMemory TypeRefusal) → IfRefused (IsRefusalOf (policy_finding scope.hierarchy owner readers)) fault
+    pub policy_wrong : (fault : OrNoMemory (RefusalAt TypeRefusalKind)) → IfRefused (IsRefusalOf (policy_finding scope.hierarchy owner readers)) fault
         → IfRefused (IsRefusalOf (along (next_component scope) [] (map component_tree written))) fault
     unfolding component_finding
     policy_wrong fault wrong =
@@ -122,7 +124,7 @@ module _ {scope : LabelScope} {labels : List Label} {written : List Component} {
           canonical = gathers.canonical;
         }
 
-    pub label_wrong : (fault : OrNoMemory TypeRefusal) → IfRefused (IsRefusalOf (component_finding scope (VariableComponent name))) fault
+    pub label_wrong : (fault : OrNoMemory (RefusalAt TypeRefusalKind)) → IfRefused (IsRefusalOf (component_finding scope (VariableComponent name))) fault
         → IfRefused (IsRefusalOf (along (next_component scope) [] (map component_tree written))) fault
     label_wrong fault wrong =
         goes_wrong gathers.made one fault is within
@@ -132,7 +134,7 @@ module _ {scope : LabelScope} {labels : List Label} {written : List Component} {
 -- ---- the whole label
 
 module _ (scope : LabelScope) (label : LabelTree) (written : List Component) (components : map component_tree written ≡ label.components) where
-  pub label_is_wrong : (fault : OrNoMemory TypeRefusal) → IfRefused (IsRefusalOf (along (next_component scope) [] (map component_tree written))) fault → IfRefused (IsRefusalOf (label_finding scope label)) fault
+  pub label_is_wrong : (fault : OrNoMemory (RefusalAt TypeRefusalKind)) → IfRefused (IsRefusalOf (along (next_component scope) [] (map component_tree written))) fault → IfRefused (IsRefusalOf (label_finding scope label)) fault
   unfolding label_finding
   label_is_wrong fault wrong =
       fails_later (along (next_component scope) [] label.components) (λ policies. Ok (written_label policies)) fault

@@ -1,48 +1,47 @@
 -- Statements that hold blocks, by what was found of those.
 use Rattle.std.proofs.Common.{◌≡◌, ℕ, ◌+◌, ◌≤◌, ◌∙◌, Ok, Option, None, Some, arith}
 use Rattle.syntax.specs.Nodes.{expression_nodes, block_nodes, statement_nodes}
-use Rattle.syntax.specs.Tree.{ExpressionTree, IfElseTree, IfTree, WhileTree, TryTree, NestedTree, BlockTree, BlockOf, StatementTrees, CatchTrees, if_tree}
+use Rattle.syntax.specs.Tree.{ExpressionTree, IfTree, WhileTree, TryTree, NestedTree, BlockTree, BlockOf, StatementTrees, CatchTrees, if_tree}
 use Rattle.common.specs.declared.base_type.BaseType.TheVariants.{Boolean}
 use Rattle.resolved.specs.Tree.{Expression, If, While, Try, Nested, Block, Empty, Handlers}
 use Rattle.common.specs.Answers.{IfRefused}
 use Rattle.common.specs.declared.fault.OrNoMemory.{OrNoMemory}
 use Rattle.types.specs.Finding.{IsRefusalOf}
-use Rattle.types.specs.declared.fault.TypeRefusal.{TypeRefusal}
+use Rattle.common.specs.declared.refusal.RefusalAt.{RefusalAt}
+use Rattle.types.specs.declared.fault.TypeRefusalKind.{TypeRefusalKind}
 use Rattle.types.specs.Expressions.{typed_finding}
-use Rattle.types.specs.Statements.{Setting, Point, statement_finding, block_finding, catches_finding}
+use Rattle.types.specs.Statements.{Setting, Point, statement_finding, block_finding, statements_finding, catches_finding}
 use Rattle.types.proofs.Loops.{fails_later, fails_second, then_ok}
 
 -- ---- conditions
 
-pub condition_wrong : (setting : Setting) (point : Point) (at : ℕ) (condition : ExpressionTree) (body : BlockTree) (otherwise : Option BlockTree) (fault : OrNoMemory TypeRefusal)
+pub condition_wrong : (setting : Setting) (point : Point) (at : ℕ) (condition : ExpressionTree) (body : BlockTree) (otherwise : Option BlockTree) (fault : OrNoMemory (RefusalAt TypeRefusalKind))
     → IfRefused (IsRefusalOf (typed_finding point.names Boolean condition)) fault → IfRefused (IsRefusalOf (statement_finding setting point (if_tree at condition body otherwise))) fault
 unfolding statement_finding
-condition_wrong setting point at condition body None fault wrong = fails_later _ _ fault wrong
-condition_wrong setting point at condition body (Some otherwise) fault wrong = fails_later _ _ fault wrong
+condition_wrong setting point at condition body otherwise fault wrong = fails_later _ _ fault wrong
 
 module _ (setting : Setting) (point : Point) (at : ℕ) (condition : ExpressionTree) (e : Expression) (typed : typed_finding point.names Boolean condition ≡ Ok e) where
   -- with one block
   pub if_done : (body : BlockTree) (inside : Point) (block : Block) → block_finding setting point body ≡ Ok (inside, block)
-      → statement_finding setting point (IfTree at condition body) ≡ Ok (inside, If at e block Empty)
-  unfolding statement_finding
+      → statement_finding setting point (if_tree at condition body None) ≡ Ok (inside, If at e block Empty)
+  unfolding statement_finding block_finding statements_finding
   if_done body inside block done = then_ok _ _ e typed ∙ then_ok _ _ (inside, block) done
 
   -- with two
   pub if_else_done : (body otherwise : BlockTree) (inside after : Point) (block other : Block) → block_finding setting point body ≡ Ok (inside, block)
       → block_finding setting inside otherwise ≡ Ok (after, other)
-      → statement_finding setting point (IfElseTree at condition body otherwise) ≡ Ok (after, If at e block other)
+      → statement_finding setting point (IfTree at condition body otherwise) ≡ Ok (after, If at e block other)
   unfolding statement_finding
   if_else_done body otherwise inside after block other first second =
       then_ok _ _ e typed ∙ then_ok _ _ (inside, block) first ∙ then_ok _ _ (after, other) second
 
-  pub if_wrong : (body : BlockTree) (otherwise : Option BlockTree) (fault : OrNoMemory TypeRefusal) → IfRefused (IsRefusalOf (block_finding setting point body)) fault
+  pub if_wrong : (body : BlockTree) (otherwise : Option BlockTree) (fault : OrNoMemory (RefusalAt TypeRefusalKind)) → IfRefused (IsRefusalOf (block_finding setting point body)) fault
       → IfRefused (IsRefusalOf (statement_finding setting point (if_tree at condition body otherwise))) fault
   unfolding statement_finding
-  if_wrong body None fault wrong = fails_second _ _ e fault typed (fails_later _ _ fault wrong)
-  if_wrong body (Some otherwise) fault wrong = fails_second _ _ e fault typed (fails_later _ _ fault wrong)
+  if_wrong body otherwise fault wrong = fails_second _ _ e fault typed (fails_later _ _ fault wrong)
 
-  pub else_wrong : (body otherwise : BlockTree) (inside : Point) (block : Block) (fault : OrNoMemory TypeRefusal) → block_finding setting point body ≡ Ok (inside, block)
-      → IfRefused (IsRefusalOf (block_finding setting inside otherwise)) fault → IfRefused (IsRefusalOf (statement_finding setting point (IfElseTree at condition body otherwise))) fault
+  pub else_wrong : (body otherwise : BlockTree) (inside : Point) (block : Block) (fault : OrNoMemory (RefusalAt TypeRefusalKind)) → block_finding setting point body ≡ Ok (inside, block)
+      → IfRefused (IsRefusalOf (block_finding setting inside otherwise)) fault → IfRefused (IsRefusalOf (statement_finding setting point (IfTree at condition body otherwise))) fault
   unfolding statement_finding
   else_wrong body otherwise inside block fault first wrong =
       fails_second _ _ e fault typed (fails_second _ _ (inside, block) fault first (fails_later _ _ fault wrong))
@@ -54,7 +53,7 @@ module _ (setting : Setting) (point : Point) (at : ℕ) (condition : ExpressionT
   unfolding statement_finding
   while_done body inside block done = then_ok _ _ e typed ∙ then_ok _ _ (inside, block) done
 
-  pub while_wrong : (body : BlockTree) (fault : OrNoMemory TypeRefusal) → IfRefused (IsRefusalOf (block_finding setting (record point { loops = point.loops + 1 }) body)) fault
+  pub while_wrong : (body : BlockTree) (fault : OrNoMemory (RefusalAt TypeRefusalKind)) → IfRefused (IsRefusalOf (block_finding setting (record point { loops = point.loops + 1 }) body)) fault
       → IfRefused (IsRefusalOf (statement_finding setting point (WhileTree at condition body))) fault
   unfolding statement_finding
   while_wrong body fault wrong = fails_second _ _ e fault typed (fails_later _ _ fault wrong)
@@ -68,12 +67,12 @@ module _ (setting : Setting) (point : Point) (at : ℕ) where
   unfolding statement_finding
   try_done body catches inside after block handlers first second = then_ok _ _ (inside, block) first ∙ then_ok _ _ (after, handlers) second
 
-  pub try_wrong : (body : BlockTree) (catches : CatchTrees) (fault : OrNoMemory TypeRefusal) → IfRefused (IsRefusalOf (block_finding setting point body)) fault
+  pub try_wrong : (body : BlockTree) (catches : CatchTrees) (fault : OrNoMemory (RefusalAt TypeRefusalKind)) → IfRefused (IsRefusalOf (block_finding setting point body)) fault
       → IfRefused (IsRefusalOf (statement_finding setting point (TryTree at body catches))) fault
   unfolding statement_finding
   try_wrong body catches fault wrong = fails_later _ _ fault wrong
 
-  pub handlers_wrong : (body : BlockTree) (catches : CatchTrees) (inside : Point) (block : Block) (fault : OrNoMemory TypeRefusal) → block_finding setting point body ≡ Ok (inside, block)
+  pub handlers_wrong : (body : BlockTree) (catches : CatchTrees) (inside : Point) (block : Block) (fault : OrNoMemory (RefusalAt TypeRefusalKind)) → block_finding setting point body ≡ Ok (inside, block)
       → IfRefused (IsRefusalOf (catches_finding setting inside catches)) fault → IfRefused (IsRefusalOf (statement_finding setting point (TryTree at body catches))) fault
   unfolding statement_finding
   handlers_wrong body catches inside block fault first wrong = fails_second _ _ (inside, block) fault first (fails_later _ _ fault wrong)
@@ -83,7 +82,7 @@ module _ (setting : Setting) (point : Point) (at : ℕ) where
   unfolding statement_finding
   nested_done statements inside block done = then_ok _ _ (inside, block) done
 
-  pub nested_wrong : (statements : StatementTrees) (fault : OrNoMemory TypeRefusal) → IfRefused (IsRefusalOf (block_finding setting point (BlockOf at statements))) fault
+  pub nested_wrong : (statements : StatementTrees) (fault : OrNoMemory (RefusalAt TypeRefusalKind)) → IfRefused (IsRefusalOf (block_finding setting point (BlockOf at statements))) fault
       → IfRefused (IsRefusalOf (statement_finding setting point (NestedTree (BlockOf at statements)))) fault
   unfolding statement_finding
   nested_wrong statements fault wrong = fails_later _ _ fault wrong

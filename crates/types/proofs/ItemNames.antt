@@ -14,11 +14,12 @@ use Rattle.syntax.specs.Written.{Anywhere, IsInteger, IsNameWithin, IsWrittenIte
 use Rattle.resolved.specs.Program.{Program, ChannelEntry, GlobalEntry, ProcedureEntry}
 use Rattle.types.specs.declared.scope.Meaning.{Meaning}
 use Rattle.types.specs.declared.scope.Meaning.TheVariants as meanings
-use Rattle.types.specs.Finding.{along}
+use Rattle.common.specs.Results.{along}
 use Rattle.types.specs.Environment.{Environment, declaring, fresh_finding}
 use Rattle.types.specs.Labels.{LabelScope, label_finding, optional_label_finding}
 use Rattle.types.specs.Laws.{IsProperName, item_names}
 use Rattle.types.specs.Statements.{Signature, block_finding}
+use Rattle.types.proofs.NextItems.{next_is, next_channel, next_global}
 use Rattle.types.specs.Resolution.{TopLevel, built_in, item_name, item_meaning, next_name, heads, channel_finding, first_finding, global_finding, result_finding, procedure_entry_finding, next_item, main_finding, resolution, next_thrown, empty_program, next_frame, next_global_cells}
 use Rattle.types.proofs.Passing.{then_finds, any_finds}
 use Rattle.types.proofs.Procedures.{parameters_finding}
@@ -171,14 +172,14 @@ fresh_is (Some meaning) at = tt
 
 names_kept : (named : ItemNames) (top : TopLevel) (items : List ItemTree) → All (IsWrittenItem Anywhere (IsNameWithin MAX_TEXT) IsInteger) items
     → AreWellFormedNames top.names (all_names named) → IfOk (along next_name top items) (λ after. AreWellFormedNames after.names (all_names (names_all named items)))
-unfolding next_name
 names_kept named top [] all kept = kept
 names_kept named top (item ∷ items) all kept =
     then_finds (next_name top item) (λ next. along next_name next items) (λ next. AreWellFormedNames next.names (all_names (names_with named item))) _
+    (subst (λ found. IfOk found (λ (next : TopLevel). AreWellFormedNames next.names (all_names (names_with named item)))) (sym (next_is top item))
     (then_finds (fresh_finding (top.names (item_name item).text) (item_name item).at) _ (λ one. top.names (item_name item).text ≡ None) _
     (fresh_is (top.names (item_name item).text) (item_name item).at) (λ one fresh.
     names_inserted top.names (all_names named) (item_name item).text (all_names (names_with named item)) (item_meaning top item) kept
-    (item_inserted named item) fresh (item_proper item (All-head (IsWrittenItem Anywhere (IsNameWithin MAX_TEXT) IsInteger) item items all))))
+    (item_inserted named item) fresh (item_proper item (All-head (IsWrittenItem Anywhere (IsNameWithin MAX_TEXT) IsInteger) item items all)))))
     (λ next kept_next. names_kept (names_with named item) next items (All-tail (IsWrittenItem Anywhere (IsNameWithin MAX_TEXT) IsInteger) item items all) kept_next)
 
 built_in_kept : AreWellFormedNames built_in.names (all_names no_names)
@@ -230,12 +231,13 @@ item_named : (h : PrincipalHierarchy) (top : TopLevel) (named : ItemNames) (tabl
     → IfOk (next_item h top tables item) (TableNames (names_with named item))
 unfolding next_item
 item_named h top named tables (ChannelItem channel) kept =
-    then_finds (channel_finding (heads h top tables.globals) channel) _ (λ (entry : ChannelEntry). entry.name ≡ channel.name.text) _ (channel_named (heads h top tables.globals) channel) (λ entry same. record {
+    subst (λ found. IfOk found (TableNames (names_with named (ChannelItem channel)))) (sym (next_channel h top tables channel))
+    (then_finds (channel_finding (heads h top tables.globals) channel) _ (λ (entry : ChannelEntry). entry.name ≡ channel.name.text) _ (channel_named (heads h top tables.globals) channel) (λ entry same. record {
       exceptions = kept.exceptions;
       channels = map_push channel_name tables.channels entry ∙ (λ i. kept.channels i ++ same i ∷ []);
       globals = kept.globals;
       procedures = kept.procedures;
-    })
+    }))
 item_named h top named tables (ExceptionItem at name) kept = record {
   exceptions = ap (λ one. one ++ name.text ∷ []) kept.exceptions;
   channels = kept.channels;
@@ -243,12 +245,13 @@ item_named h top named tables (ExceptionItem at name) kept = record {
   procedures = kept.procedures;
 }
 item_named h top named tables (GlobalItem global) kept =
-    then_finds (global_finding (heads h top tables.globals) global) _ (λ (entry : GlobalEntry). entry.name ≡ global.name.text) _ (global_named (heads h top tables.globals) global) (λ entry same. record {
+    subst (λ found. IfOk found (TableNames (names_with named (GlobalItem global)))) (sym (next_global h top tables global))
+    (then_finds (global_finding (heads h top tables.globals) global) _ (λ (entry : GlobalEntry). entry.name ≡ global.name.text) _ (global_named (heads h top tables.globals) global) (λ entry same. record {
       exceptions = kept.exceptions;
       channels = kept.channels;
       globals = map_push global_name tables.globals entry ∙ (λ i. kept.globals i ++ same i ∷ []);
       procedures = kept.procedures;
-    })
+    }))
 item_named h top named tables (ProcedureItem procedure) kept =
     then_finds (procedure_entry_finding (heads h top tables.globals) top.signatures procedure) _ (λ (entry : ProcedureEntry). entry.name ≡ procedure.name.text) _ (procedure_named (heads h top tables.globals) top.signatures procedure)
     (λ entry same. record {

@@ -12,6 +12,7 @@ use Rattle.resolved.specs.declared.tables.GlobalVariable.{GlobalVariable}
 use Rattle.resolved.specs.declared.tables.Procedure.{Procedure}
 use Rattle.resolved.specs.ProgramOf.{channel_entry, global_entry, procedure_entry}
 use Rattle.types.specs.declared.program.ItemTables.{ItemTables}
+use Rattle.types.proofs.NextItems.{next_channel, next_global}
 use Rattle.types.specs.Resolution.{TopLevel, heads, channel_finding, global_finding, procedure_entry_finding, next_item}
 use Rattle.types.specs.VariableEntries.{VariableEntries, IsInside, IsProcedureInside}
 use Rattle.types.specs.Views.{AreTablesInside, tables_view}
@@ -39,7 +40,8 @@ module _ (h : PrincipalHierarchy) (top : TopLevel) (tables : ItemTables) where
         let procedures = same_procedures tables.variables.labels variables.labels extended tables.procedures.items inside.of_procedures in
         let all = ap (map (channel_entry variables.labels)) is ∙ map_push (channel_entry variables.labels) tables.channels.items one
         ∙ ap (λ front. front ++ channel_entry variables.labels one ∷ []) same in
-        then_ok (channel_finding (heads h top tables.variables.globals) written) _ (channel_entry variables.labels one) found
+        next_channel h top (tables_view tables) written
+        ∙ then_ok (channel_finding (heads h top tables.variables.globals) written) _ (channel_entry variables.labels one) found
         ∙ (λ i. Ok (record (tables_view tables) { channels = sym all i; globals = sym globals i; procedures = sym procedures i }))
 
     pub global_added : (written : GlobalTree) (one : GlobalVariable) (later : VariableEntries) → global_finding (heads h top tables.variables.globals) written ≡ Ok (global_entry variables.labels one)
@@ -49,7 +51,8 @@ module _ (h : PrincipalHierarchy) (top : TopLevel) (tables : ItemTables) where
     global_added written one later found is =
         let channels = same_channels tables.variables.labels variables.labels extended tables.channels.items inside.of_channels in
         let procedures = same_procedures tables.variables.labels variables.labels extended tables.procedures.items inside.of_procedures in
-        then_ok (global_finding (heads h top tables.variables.globals) written) _ (global_entry variables.labels one) found
+        next_global h top (tables_view tables) written
+        ∙ then_ok (global_finding (heads h top tables.variables.globals) written) _ (global_entry variables.labels one) found
         ∙ (λ i. Ok (record (tables_view tables) { channels = sym channels i; globals = sym globals i ++ global_entry variables.labels one ∷ []; procedures = sym procedures i }))
         ∙ ap (λ (one : VariableEntries). Ok (tables_view (record tables { variables = one }))) (sym is)
 

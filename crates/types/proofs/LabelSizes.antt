@@ -21,7 +21,8 @@ use Rattle.resolved.specs.Program.{GlobalEntry, SlotEntry}
 use Rattle.resolved.specs.WellFormed.{policy_fits, label_nodes}
 use Rattle.types.specs.Environment.{use_as, variable_of}
 use Rattle.types.specs.declared.fault.TypeRefusalKind.TheVariants as refusals
-use Rattle.types.specs.Finding.{Finding, found_or, along, ◌>>=◌}
+use Rattle.common.specs.Results.{along, ◌>>=◌}
+use Rattle.types.specs.Finding.{Finding, found_or}
 use Rattle.types.specs.Labels.{LabelScope, policy_finding, variable_label_finding, component_finding, next_component, label_finding}
 use Rattle.types.proofs.ChannelLabels.{label_canonical}
 use Rattle.types.proofs.Passing.{then_finds, found_finds, any_finds}

@@ -9,6 +9,7 @@ mod ItemsAdded
 mod LabelNumbers
 mod LabelSizes
 mod NamedMeanings
+mod NextItems
 mod JoinAll
 mod Later
 mod Loops

@@ -12,10 +12,12 @@ use Rattle.types.specs.declared.scope.Meaning.{Meaning}
 use Rattle.types.specs.declared.scope.ItemKind.TheVariants.{Channel, Exception, Procedure}
 use Rattle.types.specs.declared.scope.Meaning.TheVariants as meanings
 use Rattle.types.specs.declared.fault.TypeRefusalKind.TheVariants as refusals
-use Rattle.types.specs.Finding.{Finding, give, found_or, give_if, along, ◌>>=◌}
+use Rattle.common.specs.Results.{along, ◌>>=◌}
+use Rattle.types.specs.Finding.{Finding, give, found_or, give_if}
 use Rattle.types.specs.Environment.{Environment, declaring, fresh_finding}
 use Rattle.types.specs.Laws.{MeaningHasName}
 use Rattle.types.specs.Views.{program_with}
+use Rattle.types.proofs.NextItems.{next_is}
 use Rattle.types.specs.Resolution.{TopLevel, nothing_declared, built_in, item_name, item_meaning, signature_of, counted, next_name, next_item, main_finding, resolution, empty_program, next_frame, next_global_cells}
 use Rattle.types.proofs.Passing.{then_finds, if_finds, any_finds}
 use Rattle.types.proofs.Tables.{ok_inside}
@@ -123,15 +125,15 @@ counted_placed named top (ProcedureItem procedure) names kept placed = record {
 }
 
 names_numbered : (named : ItemNames) (top : TopLevel) (items : List ItemTree) → NamesAreNumbered named top → IfOk (along next_name top items) (NamesAreNumbered (names_all named items))
-unfolding next_name
 names_numbered named top [] kept = kept
 names_numbered named top (item ∷ items) kept =
     then_finds (next_name top item) (λ next. along next_name next items) (NamesAreNumbered (names_with named item)) _
+    (subst (λ found. IfOk found (NamesAreNumbered (names_with named item))) (sym (next_is top item))
     (then_finds (fresh_finding (top.names (item_name item).text) (item_name item).at) _ (λ one. Unit {0}) _
     (any_finds (fresh_finding (top.names (item_name item).text) (item_name item).at)) (λ one nothing.
     counted_placed named top item (declaring (item_name item).text (item_meaning top item) top.names) kept
     (placed_declaring (names_with named item) (item_name item).text (item_meaning top item) top.names (new_placed named top item kept)
-    (λ name meaning e. placed_further named item meaning name (kept.names name meaning e)))))
+    (λ name meaning e. placed_further named item meaning name (kept.names name meaning e))))))
     (λ next kept_next. names_numbered (names_with named item) next items kept_next)
 
 built_in_placed : NamesAreNumbered no_names built_in

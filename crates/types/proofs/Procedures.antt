@@ -16,10 +16,12 @@ use Rattle.resolved.specs.Program.{SlotEntry, ResultEntry, ThrownEntry}
 use Rattle.resolved.specs.Tree.{Block}
 use Rattle.common.specs.Answers.{IfRefused}
 use Rattle.common.specs.declared.fault.OrNoMemory.{OrNoMemory}
-use Rattle.types.specs.declared.fault.TypeRefusal.{TypeRefusal}
+use Rattle.common.specs.declared.refusal.RefusalAt.{RefusalAt}
+use Rattle.types.specs.declared.fault.TypeRefusalKind.{TypeRefusalKind}
 use Rattle.types.specs.declared.scope.Meaning.{Meaning}
 use Rattle.types.specs.declared.fault.TypeRefusalKind.TheVariants as refusals
-use Rattle.types.specs.Finding.{Finding, IsRefusalOf, give, along, require}
+use Rattle.common.specs.Results.{along}
+use Rattle.types.specs.Finding.{Finding, IsRefusalOf, give, require}
 use Rattle.types.specs.Environment.{fresh_finding, use_as, item_of}
 use Rattle.types.specs.Labels.{LabelScope, label_finding, optional_label_finding}
 use Rattle.types.specs.declared.label.ItemContext.{ItemContext}
@@ -107,7 +109,7 @@ pub optional_in_scope : (seen scope : LabelScope) (label : Option LabelTree) (fo
     → optional_label_finding scope label ≡ Ok found
 optional_in_scope seen scope label found same = subst (λ one. optional_label_finding one label ≡ Ok found) same
 
-pub optional_wrong_in_scope : (seen scope : LabelScope) (label : Option LabelTree) (fault : OrNoMemory TypeRefusal) → seen ≡ scope
+pub optional_wrong_in_scope : (seen scope : LabelScope) (label : Option LabelTree) (fault : OrNoMemory (RefusalAt TypeRefusalKind)) → seen ≡ scope
     → IfRefused (IsRefusalOf (optional_label_finding seen label)) fault → IfRefused (IsRefusalOf (optional_label_finding scope label)) fault
 optional_wrong_in_scope seen scope label fault same = subst (λ one. IfRefused (IsRefusalOf (optional_label_finding one label)) fault) same
 
@@ -121,23 +123,23 @@ throws_need tree lent all are = let few = throws_few (map tree all) in omega (ar
 
 module _ (scope : LabelScope) (signatures : List Signature) (procedure : ProcedureTree) (result : Option ResultEntry) (begin : Option Label)
     (valued : result_finding scope procedure.result ≡ Ok result) (begun : optional_label_finding scope procedure.begin ≡ Ok begin) where
-  pub parameters_wrong : (fault : OrNoMemory TypeRefusal) → IfRefused (IsRefusalOf (parameters_finding scope procedure.parameters)) fault → IfRefused (IsRefusalOf (procedure_entry_finding scope signatures procedure)) fault
+  pub parameters_wrong : (fault : OrNoMemory (RefusalAt TypeRefusalKind)) → IfRefused (IsRefusalOf (parameters_finding scope procedure.parameters)) fault → IfRefused (IsRefusalOf (procedure_entry_finding scope signatures procedure)) fault
   unfolding procedure_entry_finding
   parameters_wrong fault wrong = fails_second _ _ result fault valued (fails_second _ _ begin fault begun (fails_later _ _ fault wrong))
 
   module _ (point : Point) (declared : parameters_finding scope procedure.parameters ≡ Ok point) where
-    pub end_wrong : (fault : OrNoMemory TypeRefusal) → IfRefused (IsRefusalOf (optional_label_finding scope procedure.end)) fault → IfRefused (IsRefusalOf (procedure_entry_finding scope signatures procedure)) fault
+    pub end_wrong : (fault : OrNoMemory (RefusalAt TypeRefusalKind)) → IfRefused (IsRefusalOf (optional_label_finding scope procedure.end)) fault → IfRefused (IsRefusalOf (procedure_entry_finding scope signatures procedure)) fault
     unfolding procedure_entry_finding
     end_wrong fault wrong = fails_second _ _ result fault valued (fails_second _ _ begin fault begun (fails_second _ _ point fault declared (fails_later _ _ fault wrong)))
 
     module _ (end : Option Label) (ended : optional_label_finding scope procedure.end ≡ Ok end) where
-      pub throws_wrong : (fault : OrNoMemory TypeRefusal) → IfRefused (IsRefusalOf (along (next_thrown scope) [] procedure.throws)) fault → IfRefused (IsRefusalOf (procedure_entry_finding scope signatures procedure)) fault
+      pub throws_wrong : (fault : OrNoMemory (RefusalAt TypeRefusalKind)) → IfRefused (IsRefusalOf (along (next_thrown scope) [] procedure.throws)) fault → IfRefused (IsRefusalOf (procedure_entry_finding scope signatures procedure)) fault
       unfolding procedure_entry_finding
       throws_wrong fault wrong =
           fails_second _ _ result fault valued (fails_second _ _ begin fault begun (fails_second _ _ point fault declared (fails_second _ _ end fault ended (fails_later _ _ fault wrong))))
 
       module _ (throws : List ThrownEntry) (thrown : along (next_thrown scope) [] procedure.throws ≡ Ok throws) where
-        pub block_wrong : (fault : OrNoMemory TypeRefusal)
+        pub block_wrong : (fault : OrNoMemory (RefusalAt TypeRefusalKind))
             → IfRefused (IsRefusalOf (block_finding (setting_within scope signatures procedure) point procedure.body)) fault
             → IfRefused (IsRefusalOf (procedure_entry_finding scope signatures procedure)) fault
         unfolding procedure_entry_finding

@@ -4,7 +4,7 @@ use Rattle.std.specs.Prelude.{IfOk, Option, Some, None, not, codes, is_none}
 use Rattle.std.proofs.lemmas.List.{length-map, map_push}
 use Rattle.std.proofs.lemmas.Result.{IfOk-weaker}
 use Rattle.principals.specs.ActsFor.{PrincipalHierarchy}
-use Rattle.syntax.specs.Tree.{NameTree, LabelTree, ExpressionTree, RightTree, SizeTree, StatementTree, DeclareTree, DeclareArrayTree, AssignTree, AssignElementTree, CallTree', ReceiveTree, SendTree, IfTree, IfElseTree, WhileTree, BreakTree, ContinueTree, ThrowTree, ReturnTree, TryTree, NestedTree, BlockTree, BlockOf, StatementTrees, NoStatement, StatementThen, CatchTrees, NoCatch, CatchThen, ParameterTree, ThrownTree, ProcedureTree, ItemTree, ChannelItem, ExceptionItem, GlobalItem, ProcedureItem, ProgramTree, expression_at}
+use Rattle.syntax.specs.Tree.{NameTree, LabelTree, ExpressionTree, RightTree, SizeTree, StatementTree, DeclareTree, DeclareArrayTree, AssignTree, AssignElementTree, CallTree', ReceiveTree, SendTree, IfTree, WhileTree, BreakTree, ContinueTree, ThrowTree, ReturnTree, TryTree, NestedTree, BlockTree, BlockOf, StatementTrees, NoStatement, StatementThen, CatchTrees, NoCatch, CatchThen, ParameterTree, ThrownTree, ProcedureTree, ItemTree, ChannelItem, ExceptionItem, GlobalItem, ProcedureItem, ProgramTree, expression_at}
 use Rattle.common.specs.declared.base_type.BaseType.{BaseType}
 use Rattle.resolved.specs.declared.expression.Variable.{Variable}
 use Rattle.common.specs.declared.base_type.BaseType.TheVariants.{Int, Boolean}
@@ -16,15 +16,17 @@ use Rattle.types.specs.declared.scope.Meaning.{Meaning}
 use Rattle.common.specs.declared.direction.Direction.TheVariants as directions
 use Rattle.types.specs.declared.scope.ItemKind.TheVariants.{Channel, Exception, Procedure}
 use Rattle.types.specs.declared.scope.Meaning.TheVariants as meanings
-use Rattle.types.specs.Finding.{give, require, along}
+use Rattle.common.specs.Results.{along}
+use Rattle.types.specs.Finding.{give, require}
 use Rattle.types.specs.Environment.{Environment, declaring, fresh_finding, use_as, scalar_of, array_of, item_of}
 use Rattle.types.specs.Labels.{LabelScope, label_finding, optional_label_finding}
 use Rattle.types.specs.Expressions.{Typed, expression_finding, typed_finding}
 use Rattle.types.specs.Laws.{channel_names, global_names, MeaningHasName}
 use Rattle.types.specs.Statements.{Signature, Setting, Point, label_scope, with_local, call_finding, assigned_finding, declare_finding, size_finding, declare_array_finding, returned_finding, return_finding, after_block, statement_finding, block_finding, statements_finding, catches_finding, slot_of}
 use Rattle.types.specs.Views.{CallUse, setting_within, program_with}
+use Rattle.types.proofs.NextItems.{next_channel, next_global}
 use Rattle.types.specs.Resolution.{TopLevel, heads, result_finding, next_parameter, is_thrown, next_thrown, procedure_entry_finding, channel_finding, global_finding, next_item, main_finding, resolution, empty_program, next_name, built_in, next_frame, next_global_cells}
-use Rattle.types.specs.ReadBack.{NameScope, top_scope, with_declared, leaving_block, IsChannel, IsException, IsProcedure, IsVariable, ReadsExpression, ReadsArguments, ReadsRight, ReadsStatement, ReadDeclare, ReadDeclareArray, ReadAssign, ReadStore, ReadCall, ReadReceive, ReadSend, ReadIf, ReadIfElse, ReadWhile, ReadBreak, ReadContinue, ReadThrow, ReadReturn, ReadReturnValue, ReadTry, ReadNested, ReadsBlock, ReadBlock, ReadsStatements, ReadNoStatement, ReadStatement, ReadsCatches, ReadNoCatch, ReadCatch, ReadsThrows, ReadNoThrown, ReadThrown, with_parameters, slot_declaration, ReadsProcedure, ReadsItems, ReadNoItem, ReadChannel, ReadException, ReadGlobal, ReadProcedure}
+use Rattle.types.specs.ReadBack.{NameScope, top_scope, with_declared, leaving_block, IsChannel, IsException, IsProcedure, IsVariable, ReadsExpression, ReadsArguments, ReadsRight, ReadsStatement, ReadDeclare, ReadDeclareArray, ReadAssign, ReadStore, ReadCall, ReadReceive, ReadSend, ReadIf, ReadWhile, ReadBreak, ReadContinue, ReadThrow, ReadReturn, ReadReturnValue, ReadTry, ReadNested, ReadsBlock, ReadBlock, ReadsStatements, ReadNoStatement, ReadStatement, ReadsCatches, ReadNoCatch, ReadCatch, ReadsThrows, ReadNoThrown, ReadThrown, with_parameters, slot_declaration, ReadsProcedure, ReadsItems, ReadNoItem, ReadChannel, ReadException, ReadGlobal, ReadProcedure}
 use Rattle.types.proofs.ItemNames.{channel_name, global_name, channel_named, global_named}
 use Rattle.types.proofs.NamedMeanings.{finds_itself}
 use Rattle.types.proofs.Passing.{then_finds, if_finds, any_finds, finds_for_all}
@@ -181,22 +183,14 @@ module _ (program : Program) where
           then_finds (typed_finding point.names Int value) _ (ReadsExpression program scope value) _
           (typed_reads program scope point.names matches.agrees Int value)
           (λ e reads. record { after = scope; reads = ReadSend is reads; matches = matches }))
-      statement_reads scope point (IfTree at condition body) matches =
-          then_finds (typed_finding point.names Boolean condition) _ (ReadsExpression program scope condition) _
-          (typed_reads program scope point.names matches.agrees Boolean condition) (λ e reads.
-          then_finds (block_finding setting point body) _ (BlockRead scope body) _ (block_reads scope point body matches) (λ done read. record {
-            after = read.after;
-            reads = ReadIf reads read.reads;
-            matches = read.matches;
-          }))
-      statement_reads scope point (IfElseTree at condition body otherwise) matches =
+      statement_reads scope point (IfTree at condition body otherwise) matches =
           then_finds (typed_finding point.names Boolean condition) _ (ReadsExpression program scope condition) _
           (typed_reads program scope point.names matches.agrees Boolean condition) (λ e reads.
           then_finds (block_finding setting point body) _ (BlockRead scope body) _ (block_reads scope point body matches) (λ done read.
           then_finds (block_finding setting done.0 otherwise) _ (BlockRead read.after otherwise) _ (block_reads read.after done.0 otherwise read.matches)
           (λ other read_other. record {
             after = read_other.after;
-            reads = ReadIfElse reads read.reads read_other.reads;
+            reads = ReadIf reads read.reads read_other.reads;
             matches = read_other.matches;
           })))
       statement_reads scope point (WhileTree at condition body) matches =
@@ -358,7 +352,8 @@ module _ (program : Program) where
     step : (before : Program) (item : ItemTree) (items : List ItemTree) → IfOk (next_item h top before item) (Step before item items)
     unfolding next_item
     step before (ChannelItem channel) items =
-        then_finds (channel_finding (heads h top before.globals) channel) _ (λ (entry : ChannelEntry). entry.name ≡ channel.name.text) _ (channel_named (heads h top before.globals) channel)
+        subst (λ found. IfOk found (Step before (ChannelItem channel) items)) (sym (next_channel h top before channel))
+        (then_finds (channel_finding (heads h top before.globals) channel) _ (λ (entry : ChannelEntry). entry.name ≡ channel.name.text) _ (channel_named (heads h top before.globals) channel)
         (λ entry named tables rest. record {
           channels = channel.name.text ∷ rest.channels;
           exceptions = rest.exceptions;
@@ -369,7 +364,7 @@ module _ (program : Program) where
           globals_are = rest.globals_are;
           procedures_are = rest.procedures_are;
           reads = ReadChannel rest.reads;
-        })
+        }))
     step before (ExceptionItem at name) items = λ tables rest. record {
       channels = rest.channels;
       exceptions = name.text ∷ rest.exceptions;
@@ -382,7 +377,8 @@ module _ (program : Program) where
       reads = ReadException rest.reads;
     }
     step before (GlobalItem global) items =
-        then_finds (global_finding (heads h top before.globals) global) _ (λ (entry : GlobalEntry). entry.name ≡ global.name.text) _ (global_named (heads h top before.globals) global)
+        subst (λ found. IfOk found (Step before (GlobalItem global) items)) (sym (next_global h top before global))
+        (then_finds (global_finding (heads h top before.globals) global) _ (λ (entry : GlobalEntry). entry.name ≡ global.name.text) _ (global_named (heads h top before.globals) global)
         (λ entry named tables rest. record {
           channels = rest.channels;
           exceptions = rest.exceptions;
@@ -393,7 +389,7 @@ module _ (program : Program) where
           globals_are = rest.globals_are ∙ name_pushed global_name before.globals entry global.name.text rest.globals named;
           procedures_are = rest.procedures_are;
           reads = ReadGlobal rest.reads;
-        })
+        }))
     step before (ProcedureItem written) items =
         then_finds (procedure_entry_finding (heads h top before.globals) top.signatures written) _ (ReadsProcedure program written) _ (procedure_read (heads h top before.globals) top.signatures written agrees)
         (λ entry reads tables rest. record {

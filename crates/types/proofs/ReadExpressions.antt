@@ -3,8 +3,7 @@ use Rattle.types.specs.Views.{CallUse}
 use Rattle.std.proofs.Common.{◌≡◌, refl, sym, ◌∙◌, ap, subst, ℕ, List, [], ◌∷◌, ◌++◌, length, Bool, true, false, cond, append-nil, append_assoc}
 use Rattle.std.specs.Prelude.{IfOk, Option, Some, None, ◌==◌, bytes_eq, slice_index_or}
 use Rattle.std.proofs.lemmas.Result.{IfOk-weaker}
-use Rattle.syntax.specs.declared.tree.UnaryOperator.{UnaryOperator}
-use Rattle.syntax.specs.declared.tree.UnaryOperator.TheVariants as unary
+use Rattle.common.specs.declared.operator.Comparison.TheVariants.{Ordered, Matched}
 use Rattle.syntax.specs.declared.tree.BinaryOperator.{BinaryOperator}
 use Rattle.syntax.specs.declared.tree.BinaryOperator.TheVariants as binary
 use Rattle.syntax.specs.Tree.{NameTree, ExpressionTree, IntegerTree, TruthTree, VariableTree, ElementTree, UnaryTree, BinaryTree, CallTree, RightTree, ReceivedTree, CalledTree, ValueTree, expression_at}
@@ -12,13 +11,7 @@ use Rattle.common.specs.declared.base_type.BaseType.{BaseType}
 use Rattle.common.specs.declared.base_type.BaseType.TheVariants.{Int, Boolean}
 use Rattle.resolved.specs.declared.expression.Variable.{Variable}
 use Rattle.resolved.specs.declared.expression.Variable.TheVariants.{Global, Local}
-use Rattle.resolved.specs.declared.expression.Operator.TheVariants.{Compute, Divide, Bits, Compare, Match}
-use Rattle.resolved.specs.declared.expression.Computation.TheVariants as computations
-use Rattle.resolved.specs.declared.expression.Division.TheVariants as divisions
-use Rattle.resolved.specs.declared.expression.BitOperator.TheVariants as bits
-use Rattle.resolved.specs.declared.expression.Relation.TheVariants as relations
-use Rattle.resolved.specs.declared.expression.Sameness.TheVariants as samenesses
-use Rattle.resolved.specs.declared.expression.Connective.TheVariants as connectives
+use Rattle.resolved.specs.declared.expression.Operator.TheVariants.{Compute, Compare, Match}
 use Rattle.resolved.specs.Program.{Program}
 use Rattle.resolved.specs.Tree.{Expression, Call}
 use Rattle.resolved.specs.WellFormed.{same_base, prefix_base}
@@ -27,17 +20,14 @@ use Rattle.common.specs.declared.direction.Direction.TheVariants as directions
 use Rattle.types.specs.declared.scope.ItemKind.{ItemKind}
 use Rattle.types.specs.declared.scope.ItemKind.TheVariants.{Channel, Exception, Procedure}
 use Rattle.types.specs.declared.scope.Meaning.TheVariants as meanings
-use Rattle.types.specs.Finding.{Finding, require, along}
+use Rattle.common.specs.Results.{along}
+use Rattle.types.specs.Finding.{Finding, require}
 use Rattle.types.specs.Environment.{Environment, declaring, use_as, scalar_of, array_of, item_of}
-use Rattle.types.specs.Expressions.{prefix_of, use_of, Typed, of_base, wanting, operands_base, combined, expression_finding, typed_finding}
+use Rattle.types.specs.Expressions.{Typed, of_base, wanting, operands_base, combined, expression_finding, typed_finding}
 use Rattle.types.specs.Statements.{arguments_finding, Signature, signature_at, next_argument, call_finding, gives_base, assigned_finding}
-use Rattle.types.specs.ReadBack.{NameScope, with_declared, innermost, IsChannel, IsException, IsProcedure, IsVariable, written_prefix, ReadsExpression, ReadInteger, ReadTruth, ReadVariable, ReadElement, ReadUnary, ReadBinary, ReadShort, ReadsArguments, ReadNoArgument, ReadArgument, ReadsRight, ReadReceived, ReadCalled, ReadValue}
+use Rattle.types.specs.ReadBack.{NameScope, with_declared, innermost, IsChannel, IsException, IsProcedure, IsVariable, ReadsExpression, ReadInteger, ReadTruth, ReadVariable, ReadElement, ReadUnary, ReadBinary, ReadShort, ReadsArguments, ReadNoArgument, ReadArgument, ReadsRight, ReadReceived, ReadCalled, ReadValue}
 use Rattle.types.proofs.Passing.{then_finds, if_finds, any_finds}
 use Rattle.types.proofs.Uses.{scalar_used, array_used, item_used}
-
-prefix_written : (operator : UnaryOperator) → written_prefix (prefix_of operator) ≡ operator
-prefix_written unary.Negate = refl
-prefix_written unary.Not = refl
 
 of_base_finds : (base : BaseType) (at : ℕ) (found : Typed) (P : Expression → Type 0) → P found.expression → IfOk (of_base base at found) P
 unfolding of_base
@@ -107,28 +97,12 @@ module _ (program : Program) where
     Reads tree e = ReadsExpression program scope tree e
 
     combined_reads : (at : ℕ) (operator : BinaryOperator) (base : BaseType) (left right : ExpressionTree) (d e : Expression) → Reads left d → Reads right e
-        → Reads (BinaryTree at operator left right) (combined (use_of operator) base d e)
-    combined_reads at binary.Multiply base left right d e p q = ReadBinary {made = Compute computations.Multiply} refl p q
-    combined_reads at binary.Divide base left right d e p q = ReadBinary {made = Divide divisions.Quotient} refl p q
-    combined_reads at binary.Remainder base left right d e p q = ReadBinary {made = Divide divisions.Remainder} refl p q
-    combined_reads at binary.Add base left right d e p q = ReadBinary {made = Compute computations.Add} refl p q
-    combined_reads at binary.Subtract base left right d e p q = ReadBinary {made = Compute computations.Subtract} refl p q
-    combined_reads at binary.LessThan base left right d e p q = ReadBinary {made = Compare relations.LessThan} refl p q
-    combined_reads at binary.AtMost base left right d e p q = ReadBinary {made = Compare relations.AtMost} refl p q
-    combined_reads at binary.GreaterThan base left right d e p q = ReadBinary {made = Compare relations.GreaterThan} refl p q
-    combined_reads at binary.AtLeast base left right d e p q = ReadBinary {made = Compare relations.AtLeast} refl p q
-    combined_reads at binary.BitAnd base left right d e p q = ReadBinary {made = Bits bits.BitAnd} refl p q
-    combined_reads at binary.BitOr base left right d e p q = ReadBinary {made = Bits bits.BitOr} refl p q
-    combined_reads at binary.BitXor base left right d e p q = ReadBinary {made = Bits bits.BitXor} refl p q
-    combined_reads at binary.ShiftLeft base left right d e p q = ReadBinary {made = Bits bits.ShiftLeft} refl p q
-    combined_reads at binary.ShiftRight base left right d e p q = ReadBinary {made = Bits bits.ShiftRight} refl p q
-    combined_reads at binary.ShiftRightUnsigned base left right d e p q = ReadBinary {made = Bits bits.ShiftRightUnsigned} refl p q
-    combined_reads at binary.EqualTo Int left right d e p q = ReadBinary {made = Compare relations.Equal} refl p q
-    combined_reads at binary.EqualTo Boolean left right d e p q = ReadBinary {made = Match samenesses.Same} refl p q
-    combined_reads at binary.NotEqualTo Int left right d e p q = ReadBinary {made = Compare relations.Unequal} refl p q
-    combined_reads at binary.NotEqualTo Boolean left right d e p q = ReadBinary {made = Match samenesses.Different} refl p q
-    combined_reads at binary.And base left right d e p q = ReadShort {made = connectives.And} refl p q
-    combined_reads at binary.Or base left right d e p q = ReadShort {made = connectives.Or} refl p q
+        → Reads (BinaryTree at operator left right) (combined operator base d e)
+    combined_reads at (binary.Compute operator) base left right d e p q = ReadBinary {made = Compute operator} refl p q
+    combined_reads at (binary.Compare (Ordered order)) base left right d e p q = ReadBinary {made = Compare (Ordered order)} refl p q
+    combined_reads at (binary.Compare (Matched sameness)) Int left right d e p q = ReadBinary {made = Compare (Matched sameness)} refl p q
+    combined_reads at (binary.Compare (Matched sameness)) Boolean left right d e p q = ReadBinary {made = Match sameness} refl p q
+    combined_reads at (binary.Connect connective) base left right d e p q = ReadShort p q
 
     wanting_reads : (base : BaseType) (at : ℕ) (looked : Finding Typed) (tree : ExpressionTree) → IfOk looked (λ (found : Typed). Reads tree found.expression)
         → IfOk (wanting base at looked) (Reads tree)
@@ -147,14 +121,14 @@ module _ (program : Program) where
         then_finds (use_as array_of (names array.text) array.at) _ (λ (a : Variable × BaseType × ℕ). IsVariable program scope array a.0) _ (array_reads array) (λ a is.
         then_finds (wanting Int (expression_at index) (expression_finding names index)) _ (Reads index) _
         (wanting_reads Int (expression_at index) (expression_finding names index) index (expression_reads index)) (λ i reads. ReadElement is reads))
-    expression_reads (UnaryTree at operator operand) =
-        let base = prefix_base (prefix_of operator) in
+    expression_reads (UnaryTree at prefix operand) =
+        let base = prefix_base prefix in
         then_finds (wanting base (expression_at operand) (expression_finding names operand)) _ (Reads operand) _
         (wanting_reads base (expression_at operand) (expression_finding names operand) operand (expression_reads operand))
-        (λ e reads. ReadUnary (prefix_written operator) reads)
+        (λ e reads. ReadUnary reads)
     expression_reads (BinaryTree at operator left right) =
         then_finds (expression_finding names left) _ (λ (found : Typed). Reads left found.expression) _ (expression_reads left) (λ l left_reads.
-        let base = operands_base (use_of operator) l.base in
+        let base = operands_base operator l.base in
         then_finds (of_base base (expression_at left) l) _ (Reads left) _ (of_base_finds base (expression_at left) l (Reads left) left_reads) (λ d d_reads.
         then_finds (expression_finding names right) _ (λ (found : Typed). Reads right found.expression) _ (expression_reads right) (λ r right_reads.
         then_finds (of_base base (expression_at right) r) _ (Reads right) _ (of_base_finds base (expression_at right) r (Reads right) right_reads)

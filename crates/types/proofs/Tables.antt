@@ -16,6 +16,7 @@ use Rattle.syntax.specs.Tree.{NameTree, ItemTree}
 use Rattle.types.specs.declared.scope.Meaning.{Meaning}
 use Rattle.types.specs.Finding.{Finding, give}
 use Rattle.types.specs.Environment.{Environment, declaring, fresh_finding}
+use Rattle.types.proofs.NextItems.{next_is}
 use Rattle.types.specs.Resolution.{TopLevel, item_name, item_meaning, counted, next_name}
 use Rattle.types.specs.Views.{and_then, found_at, or_else, texts_of, without}
 
@@ -113,9 +114,9 @@ pub named : (top : TopLevel) (item : ItemTree) (found : Environment) (name : Nam
     → name ≡ item_name item → looked ≡ top.names name.text → fresh_finding looked name.at ≡ Ok tt
     → meaning ≡ item_meaning top item → give (declaring name.text meaning top.names) ≡ give found
     → next_name top item ≡ Ok (record (counted top item) { names = found })
-unfolding next_name
 named top item found name looked meaning n f fresh m e =
-    ap (λ (one : NameTree). and_then (fresh_finding (top.names one.text) one.at) (λ _. give (record (counted top item) { names = declaring (item_name item).text (item_meaning top item) top.names }))) (sym n)
+    next_is top item
+    ∙ ap (λ (one : NameTree). and_then (fresh_finding (top.names one.text) one.at) (λ _. give (record (counted top item) { names = declaring (item_name item).text (item_meaning top item) top.names }))) (sym n)
     ∙ ap (λ one. and_then one (λ _. give (record (counted top item) { names = declaring (item_name item).text (item_meaning top item) top.names }))) (sym (ap (λ one. fresh_finding one name.at) f) ∙ fresh)
     ∙ ap (λ (names : Environment). Ok (record (counted top item) { names = names }))
     (ap (λ (one : NameTree). declaring one.text (item_meaning top item) top.names) (sym n)

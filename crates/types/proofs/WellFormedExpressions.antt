@@ -4,6 +4,7 @@ use Rattle.std.proofs.Common.{◌≡◌, refl, sym, subst, ℕ, ◌+◌, ◌≤�
 use Rattle.std.specs.Prelude.{IfOk, Option, Some, None, ◌==◌, slice_get, bytes_eq}
 use Rattle.std.proofs.lemmas.Result.{IfOk-weaker}
 use Rattle.std.proofs.lemmas.Bool.{le-leb, eq-eqb, and_from}
+use Rattle.common.specs.declared.operator.Comparison.TheVariants.{Ordered, Matched}
 use Rattle.syntax.specs.declared.tree.BinaryOperator.{BinaryOperator}
 use Rattle.syntax.specs.declared.tree.BinaryOperator.TheVariants as binary
 use Rattle.syntax.specs.Nodes.{expression_nodes as written_nodes}
@@ -22,7 +23,7 @@ use Rattle.types.specs.declared.scope.ItemKind.TheVariants.{Channel, Exception, 
 use Rattle.types.specs.declared.scope.Meaning.TheVariants as meanings
 use Rattle.types.specs.Finding.{Finding}
 use Rattle.types.specs.Environment.{Environment, declaring, use_as, scalar_of, array_of, item_of}
-use Rattle.types.specs.Expressions.{prefix_of, use_of, Typed, of_base, wanting, operands_base, value_base, combined, expression_finding, typed_finding}
+use Rattle.types.specs.Expressions.{Typed, of_base, wanting, operands_base, value_base, combined, expression_finding, typed_finding}
 use Rattle.types.specs.Statements.{Signature, signature_at}
 use Rattle.types.proofs.Passing.{then_finds, if_finds}
 use Rattle.types.proofs.Uses.{scalar_used, array_used, item_used}
@@ -122,54 +123,22 @@ module _ (program : Program) (procedure : ProcedureEntry) (signatures : List Sig
       (and_from (size == size) (same_base base base) (eq-eqb size size refl) (same_base_itself base))
 
   combined_fits : (operator : BinaryOperator) (base : BaseType) (d e : Expression)
-      → has_base program procedure (operands_base (use_of operator) base) d ≡ true
-      → has_base program procedure (operands_base (use_of operator) base) e ≡ true
-      → has_base program procedure (value_base (use_of operator)) (combined (use_of operator) base d e) ≡ true
-  combined_fits binary.Multiply base d e = and_from (has_base program procedure Int d) (has_base program procedure Int e)
-  combined_fits binary.Divide base d e = and_from (has_base program procedure Int d) (has_base program procedure Int e)
-  combined_fits binary.Remainder base d e = and_from (has_base program procedure Int d) (has_base program procedure Int e)
-  combined_fits binary.Add base d e = and_from (has_base program procedure Int d) (has_base program procedure Int e)
-  combined_fits binary.Subtract base d e = and_from (has_base program procedure Int d) (has_base program procedure Int e)
-  combined_fits binary.LessThan base d e = and_from (has_base program procedure Int d) (has_base program procedure Int e)
-  combined_fits binary.AtMost base d e = and_from (has_base program procedure Int d) (has_base program procedure Int e)
-  combined_fits binary.GreaterThan base d e = and_from (has_base program procedure Int d) (has_base program procedure Int e)
-  combined_fits binary.AtLeast base d e = and_from (has_base program procedure Int d) (has_base program procedure Int e)
-  combined_fits binary.BitAnd base d e = and_from (has_base program procedure Int d) (has_base program procedure Int e)
-  combined_fits binary.BitOr base d e = and_from (has_base program procedure Int d) (has_base program procedure Int e)
-  combined_fits binary.BitXor base d e = and_from (has_base program procedure Int d) (has_base program procedure Int e)
-  combined_fits binary.ShiftLeft base d e = and_from (has_base program procedure Int d) (has_base program procedure Int e)
-  combined_fits binary.ShiftRight base d e = and_from (has_base program procedure Int d) (has_base program procedure Int e)
-  combined_fits binary.ShiftRightUnsigned base d e = and_from (has_base program procedure Int d) (has_base program procedure Int e)
-  combined_fits binary.EqualTo Int d e = and_from (has_base program procedure Int d) (has_base program procedure Int e)
-  combined_fits binary.EqualTo Boolean d e = and_from (has_base program procedure Boolean d) (has_base program procedure Boolean e)
-  combined_fits binary.NotEqualTo Int d e = and_from (has_base program procedure Int d) (has_base program procedure Int e)
-  combined_fits binary.NotEqualTo Boolean d e = and_from (has_base program procedure Boolean d) (has_base program procedure Boolean e)
-  combined_fits binary.And base d e = and_from (has_base program procedure Boolean d) (has_base program procedure Boolean e)
-  combined_fits binary.Or base d e = and_from (has_base program procedure Boolean d) (has_base program procedure Boolean e)
+      → has_base program procedure (operands_base operator base) d ≡ true
+      → has_base program procedure (operands_base operator base) e ≡ true
+      → has_base program procedure (value_base operator) (combined operator base d e) ≡ true
+  combined_fits (binary.Compute operator) base d e = and_from (has_base program procedure Int d) (has_base program procedure Int e)
+  combined_fits (binary.Compare (Ordered order)) base d e = and_from (has_base program procedure Int d) (has_base program procedure Int e)
+  combined_fits (binary.Compare (Matched sameness)) Int d e = and_from (has_base program procedure Int d) (has_base program procedure Int e)
+  combined_fits (binary.Compare (Matched sameness)) Boolean d e = and_from (has_base program procedure Boolean d) (has_base program procedure Boolean e)
+  combined_fits (binary.Connect connective) base d e = and_from (has_base program procedure Boolean d) (has_base program procedure Boolean e)
 
   combined_nodes : (operator : BinaryOperator) (base : BaseType) (d e : Expression)
-      → expression_nodes (combined (use_of operator) base d e) ≡ 1 + expression_nodes d + expression_nodes e
-  combined_nodes binary.Multiply base d e = refl
-  combined_nodes binary.Divide base d e = refl
-  combined_nodes binary.Remainder base d e = refl
-  combined_nodes binary.Add base d e = refl
-  combined_nodes binary.Subtract base d e = refl
-  combined_nodes binary.LessThan base d e = refl
-  combined_nodes binary.AtMost base d e = refl
-  combined_nodes binary.GreaterThan base d e = refl
-  combined_nodes binary.AtLeast base d e = refl
-  combined_nodes binary.BitAnd base d e = refl
-  combined_nodes binary.BitOr base d e = refl
-  combined_nodes binary.BitXor base d e = refl
-  combined_nodes binary.ShiftLeft base d e = refl
-  combined_nodes binary.ShiftRight base d e = refl
-  combined_nodes binary.ShiftRightUnsigned base d e = refl
-  combined_nodes binary.EqualTo Int d e = refl
-  combined_nodes binary.EqualTo Boolean d e = refl
-  combined_nodes binary.NotEqualTo Int d e = refl
-  combined_nodes binary.NotEqualTo Boolean d e = refl
-  combined_nodes binary.And base d e = refl
-  combined_nodes binary.Or base d e = refl
+      → expression_nodes (combined operator base d e) ≡ 1 + expression_nodes d + expression_nodes e
+  combined_nodes (binary.Compute operator) base d e = refl
+  combined_nodes (binary.Compare (Ordered order)) base d e = refl
+  combined_nodes (binary.Compare (Matched sameness)) Int d e = refl
+  combined_nodes (binary.Compare (Matched sameness)) Boolean d e = refl
+  combined_nodes (binary.Connect connective) base d e = refl
 
   module _ (fits : ℕ → Type 0) (word : List ℕ → Type 0) (names : Environment) where
     pub expression_keeps : (tree : ExpressionTree) → IsWrittenExpression fits word IsInteger tree
@@ -197,8 +166,8 @@ module _ (program : Program) (procedure : ProcedureEntry) (signatures : List Sig
               (element_read (variable_type program procedure a.0) a.1 a.2 (stands means)) (kept.fits means);
           few = omega (arith, kept.few);
         }))
-    expression_keeps (UnaryTree at operator operand) written =
-        let base = prefix_base (prefix_of operator) in
+    expression_keeps (UnaryTree at prefix operand) written =
+        let base = prefix_base prefix in
         then_finds (wanting base (expression_at operand) (expression_finding names operand)) _ (IsWellFormedTyped names base (written_nodes operand)) _
         (wanting_keeps names base (expression_at operand) (written_nodes operand) (expression_finding names operand) (expression_keeps operand written.1))
         (λ e kept. record {
@@ -207,7 +176,7 @@ module _ (program : Program) (procedure : ProcedureEntry) (signatures : List Sig
         })
     expression_keeps (BinaryTree at operator left right) written =
         then_finds (expression_finding names left) _ (IsWellFormedExpression names (written_nodes left)) _ (expression_keeps left written.1) (λ l left_kept.
-        let base = operands_base (use_of operator) l.base in
+        let base = operands_base operator l.base in
         then_finds (of_base base (expression_at left) l) _ (IsWellFormedTyped names base (written_nodes left)) _
         (of_base_keeps names base (expression_at left) (written_nodes left) l left_kept) (λ d d_kept.
         then_finds (expression_finding names right) _ (IsWellFormedExpression names (written_nodes right)) _ (expression_keeps right written.2) (λ r right_kept.

@@ -22,7 +22,8 @@ use Rattle.resolved.specs.Program.{GlobalEntry, SlotEntry, ThrownEntry}
 use Rattle.resolved.specs.WellFormed.{policy_fits, label_fits, written_fits}
 use Rattle.types.specs.Environment.{use_as, variable_of}
 use Rattle.types.specs.declared.fault.TypeRefusalKind.TheVariants as refusals
-use Rattle.types.specs.Finding.{Finding, found_or, along, put_last}
+use Rattle.common.specs.Results.{along}
+use Rattle.types.specs.Finding.{Finding, found_or, put_last}
 use Rattle.types.specs.Labels.{LabelScope, principal_finding, policy_finding, variable_label_finding, component_finding, next_component, label_finding, optional_label_finding}
 use Rattle.types.specs.Resolution.{joined_all}
 use Rattle.types.proofs.Passing.{then_finds, found_finds, any_finds}

@@ -20,7 +20,8 @@ use Rattle.resolved.specs.WellFormed.{is_exception, label_fits, written_fits, re
 use Rattle.resolved.proofs.WellFormedParts.{procedure_from_parts}
 use Rattle.types.specs.declared.scope.ItemKind.TheVariants.{Exception}
 use Rattle.types.specs.declared.scope.Meaning.TheVariants as meanings
-use Rattle.types.specs.Finding.{require, along}
+use Rattle.common.specs.Results.{along}
+use Rattle.types.specs.Finding.{require}
 use Rattle.types.specs.Environment.{Environment, fresh_finding, use_as, item_of}
 use Rattle.types.specs.Labels.{LabelScope, label_finding, optional_label_finding}
 use Rattle.types.specs.Statements.{Signature, Setting, Point, block_finding, slot_of}

@@ -28,11 +28,13 @@ use Rattle.types.specs.declared.scope.Meaning.{Meaning}
 use Rattle.types.specs.declared.scope.ItemKind.TheVariants.{Channel, Exception, Procedure}
 use Rattle.types.specs.declared.scope.Meaning.TheVariants as meanings
 use Rattle.types.specs.declared.fault.TypeRefusalKind.TheVariants as refusals
-use Rattle.types.specs.Finding.{along, found_or, give_if, ◌>>=◌}
+use Rattle.common.specs.Results.{along, ◌>>=◌}
+use Rattle.types.specs.Finding.{found_or, give_if}
 use Rattle.types.specs.Environment.{Environment, declaring, fresh_finding, item_of}
 use Rattle.types.specs.Labels.{label_finding}
 use Rattle.types.specs.Statements.{Signature, signature_at, size_finding}
 use Rattle.types.specs.Views.{program_with}
+use Rattle.types.proofs.NextItems.{next_is, next_channel, next_global}
 use Rattle.types.specs.Resolution.{TopLevel, nothing_declared, built_in, item_name, item_meaning, signature_of, counted, next_name, heads, channel_finding, first_finding, global_finding, next_item, procedure_entry_finding, main_finding, next_global_cells, next_frame, resolution, signed, size_of, empty_program}
 use Rattle.types.proofs.Passing.{then_finds, if_finds, require_finds, any_finds}
 use Rattle.types.proofs.WellFormedExpressions.{given_base, slot_base, Signed, Stands}
@@ -199,13 +201,13 @@ counted_kept shape top (ProcedureItem procedure) names kept means = record {
 }
 
 name_kept : (shape : Shape) (top : TopLevel) (item : ItemTree) → IsWellFormedTop shape top → IfOk (next_name top item) (IsWellFormedTop (shape_with shape item))
-unfolding next_name
 name_kept shape top item kept =
-    then_finds (fresh_finding (top.names (item_name item).text) (item_name item).at) _ (λ one. Unit {0}) _
+    subst (λ found. IfOk found (IsWellFormedTop (shape_with shape item))) (sym (next_is top item))
+    (then_finds (fresh_finding (top.names (item_name item).text) (item_name item).at) _ (λ one. Unit {0}) _
     (any_finds (fresh_finding (top.names (item_name item).text) (item_name item).at)) (λ one nothing.
     counted_kept shape top item (declaring (item_name item).text (item_meaning top item) top.names) kept
     (means_in_declaring (shape_with shape item) (item_name item).text (item_meaning top item) top.names (new_stands shape top item kept)
-    (λ name meaning e. stands_further shape item meaning (kept.names name meaning e))))
+    (λ name meaning e. stands_further shape item meaning (kept.names name meaning e)))))
 
 names_kept : (shape : Shape) (top : TopLevel) (items : List ItemTree) → IsWellFormedTop shape top → IfOk (along next_name top items) (IsWellFormedTop (shape_all shape items))
 names_kept shape top [] kept = kept
@@ -380,7 +382,8 @@ module _ (placed : ℕ → Type 0) (word : List ℕ → Type 0) (h : PrincipalHi
       → IfOk (next_item h top tables item) (AreWellFormedTables h top (shape_with shape item) (nodes + tree.item_nodes item))
   unfolding next_item
   item_kept shape nodes tables (ChannelItem channel) is kept =
-      then_finds (channel_finding (heads h top tables.globals) channel) _
+      subst (λ found. IfOk found (AreWellFormedTables h top (shape_with shape (ChannelItem channel)) (nodes + tree.item_nodes (ChannelItem channel)))) (sym (next_channel h top tables channel))
+      (then_finds (channel_finding (heads h top tables.globals) channel) _
       (λ (entry : ChannelEntry). LabelThere h kept.written channel.label entry.label × (entry.direction ≡ channel.direction)) _
       (channel_there h top tables.globals kept.written (known_globals h top shape nodes tables kept) channel) (λ entry there. record {
         directions = map_push way_of tables.channels entry ∙ (λ i. kept.directions i ++ there.1 i ∷ []);
@@ -396,7 +399,7 @@ module _ (placed : ℕ → Type 0) (word : List ℕ → Type 0) (h : PrincipalHi
         channels_of =
             each_pushed (ChannelOf (kept.written ++ there.0.1)) tables.channels entry (channels_of_more kept.written there.0.1 tables.channels kept.channels_of) there.0.3;
         globals_of = globals_of_more kept.written there.0.1 tables.globals kept.globals_of;
-      })
+      }))
   item_kept shape nodes tables (ExceptionItem at name) is kept = record {
     directions = kept.directions;
     exceptions = omega (arith, kept.exceptions, length-append tables.exceptions (name.text ∷ []));
@@ -412,7 +415,8 @@ module _ (placed : ℕ → Type 0) (word : List ℕ → Type 0) (h : PrincipalHi
     globals_of = kept.globals_of;
   }
   item_kept shape nodes tables (GlobalItem global) is kept =
-      then_finds (global_finding (heads h top tables.globals) global) _
+      subst (λ found. IfOk found (AreWellFormedTables h top (shape_with shape (GlobalItem global)) (nodes + tree.item_nodes (GlobalItem global)))) (sym (next_global h top tables global))
+      (then_finds (global_finding (heads h top tables.globals) global) _
       (λ (entry : GlobalEntry). (global_fits h entry ≡ true) × (variable_of entry ≡ declared_variable global) × LabelThere h kept.written global.label entry.label) _
       (global_there h top tables.globals kept.written (known_globals h top shape nodes tables kept) global) (λ entry there. record {
         directions = kept.directions;
@@ -428,7 +432,7 @@ module _ (placed : ℕ → Type 0) (word : List ℕ → Type 0) (h : PrincipalHi
         channels_of = channels_of_more kept.written there.2.1 tables.channels kept.channels_of;
         globals_of =
             each_pushed (GlobalOf (kept.written ++ there.2.1)) tables.globals entry (globals_of_more kept.written there.2.1 tables.globals kept.globals_of) there.2.3;
-      })
+      }))
   item_kept shape nodes tables (ProcedureItem procedure) is kept =
       then_finds (procedure_entry_finding (heads h top tables.globals) top.signatures procedure) _ (IsWellFormedProcedure h top procedure) _
       (procedure_keeps placed word h top tables.globals (known_globals h top shape nodes tables kept).fit procedure is)

@@ -11,7 +11,7 @@ use Rattle.std.proofs.lemmas.List.Sums.{sum_by-cons, sum_by_push}
 use Rattle.std.proofs.lemmas.Result.{IfOk-weaker}
 use Rattle.std.proofs.lemmas.Option.{same_Some}
 use Rattle.syntax.specs.Nodes as tree
-use Rattle.syntax.specs.Tree.{NameTree, LabelTree, ExpressionTree, CallTree, RightTree, ReceivedTree, CalledTree, ValueTree, SizeTree, StatementTree, DeclareTree, DeclareArrayTree, AssignTree, AssignElementTree, CallTree', ReceiveTree, SendTree, IfTree, IfElseTree, WhileTree, BreakTree, ContinueTree, ThrowTree, ReturnTree, TryTree, NestedTree, BlockTree, BlockOf, StatementTrees, NoStatement, StatementThen, CatchTrees, NoCatch, CatchThen, expression_at}
+use Rattle.syntax.specs.Tree.{NameTree, LabelTree, ExpressionTree, CallTree, RightTree, ReceivedTree, CalledTree, ValueTree, SizeTree, StatementTree, DeclareTree, DeclareArrayTree, AssignTree, AssignElementTree, CallTree', ReceiveTree, SendTree, IfTree, WhileTree, BreakTree, ContinueTree, ThrowTree, ReturnTree, TryTree, NestedTree, BlockTree, BlockOf, StatementTrees, NoStatement, StatementThen, CatchTrees, NoCatch, CatchThen, expression_at}
 use Rattle.syntax.specs.Written.{IsWrittenExpression, IsWrittenOptionalExpression, IsWrittenCall, IsWrittenRight, IsWrittenStatement, IsWrittenBlock, AreWrittenStatements, AreWrittenCatches, IsInteger}
 use Rattle.common.specs.declared.base_type.BaseType.{BaseType}
 use Rattle.common.specs.declared.base_type.BaseType.TheVariants.{Int, Boolean}
@@ -20,12 +20,13 @@ use Rattle.resolved.specs.declared.expression.Variable.TheVariants.{Local}
 use Rattle.common.specs.declared.direction.Direction.TheVariants as directions
 use Rattle.resolved.specs.declared.statement.Exit.TheVariants as exits
 use Rattle.resolved.specs.Program.{Program, ProcedureEntry, SlotEntry, ResultEntry}
-use Rattle.resolved.specs.Tree.{Expression, Statement, Store, Receive, Send, Call, If, While, Leave, ReturnWith, Try, Nested, Block, Empty, Handlers, Catch}
+use Rattle.resolved.specs.Tree.{Expression, Statement, Store, Receive, Send, Call, If, While, Leave, ReturnWith, Try, Nested, Block, Handlers, Catch}
 use Rattle.resolved.specs.WellFormed.{same_base, slot_type, variable_type, scalar_by, array_by, has_base, has_result, target_by, channel_is, is_exception, is_array, arguments_match, call_matches, parameters_of, statement_fits, block_fits, handlers_fit, statement_loops, block_loops, handlers_loops, counts_from, size_fits, written_fits, expression_nodes, statement_nodes, block_nodes, handlers_nodes}
 use Rattle.resolved.proofs.Sound.Values.{same_base_is, same_base_itself}
 use Rattle.types.specs.declared.scope.ItemKind.TheVariants.{Channel, Exception, Procedure}
 use Rattle.types.specs.declared.scope.Meaning.TheVariants as meanings
-use Rattle.types.specs.Finding.{require, along}
+use Rattle.common.specs.Results.{along}
+use Rattle.types.specs.Finding.{require}
 use Rattle.types.specs.Environment.{Environment, fresh_finding, use_as, scalar_of, array_of, item_of}
 use Rattle.types.specs.Labels.{optional_label_finding}
 use Rattle.types.specs.Expressions.{Typed, expression_finding, typed_finding}
@@ -562,16 +563,10 @@ module _ (program : Program) (procedure : ProcedureEntry) (setting : Setting) wh
 
       -- ---- statements that hold others
 
-      if_keeps : (point : Point) (at nodes : ℕ) (e : Expression) (condition : ℕ) → HasBase point.names Boolean condition e
-          → (done : Point × Block) → IsWellFormedBlock point nodes done → IsWellFormedStatement point (1 + (condition + nodes)) (done.0, If at e done.1 Empty)
-      if_keeps point at nodes e condition kept_e done kept =
-          weigh (statement_nodes (If at e done.1 Empty)) (1 + (condition + nodes)) (omega (arith, kept_e.few))
-          (then_keeps (test_keeps (has_base program procedure Boolean e) kept_e.fits kept) (nothing_keeps done.0))
-
-      if_else_keeps : (point : Point) (at nodes others : ℕ) (e : Expression) (condition : ℕ) → HasBase point.names Boolean condition e
+      if_keeps : (point : Point) (at nodes others : ℕ) (e : Expression) (condition : ℕ) → HasBase point.names Boolean condition e
           → (done : Point × Block) → IsWellFormedBlock point nodes done → (other : Point × Block) → IsWellFormedBlock done.0 others other
           → IsWellFormedStatement point (1 + (condition + (nodes + others))) (other.0, If at e done.1 other.1)
-      if_else_keeps point at nodes others e condition kept_e done kept other kept_other =
+      if_keeps point at nodes others e condition kept_e done kept other kept_other =
           weigh (statement_nodes (If at e done.1 other.1)) (1 + (condition + (nodes + others))) (omega (arith, kept_e.few))
           (then_keeps (test_keeps (has_base program procedure Boolean e) kept_e.fits kept) kept_other)
 
@@ -635,18 +630,13 @@ module _ (program : Program) (procedure : ProcedureEntry) (setting : Setting) wh
         statement_keeps point (CallTree' call) is = call_statement_keeps point call is
         statement_keeps point (ReceiveTree at channel) is = receive_keeps point at channel
         statement_keeps point (SendTree at channel right) is = send_keeps point at channel right is.2
-        statement_keeps point (IfTree at condition body) is =
-            then_finds (typed_finding point.names Boolean condition) _ (HasBase point.names Boolean (tree.expression_nodes condition)) _
-            (typed_keeps program procedure setting.signatures placed word point.names Boolean condition is.1) (λ e kept_e.
-            then_finds (block_finding setting point body) _ (IsWellFormedBlock point (tree.block_nodes body)) _ (block_keeps point body is.2)
-            (λ done kept. if_keeps point at (tree.block_nodes body) e (tree.expression_nodes condition) kept_e done kept))
-        statement_keeps point (IfElseTree at condition body otherwise) is =
+        statement_keeps point (IfTree at condition body otherwise) is =
             then_finds (typed_finding point.names Boolean condition) _ (HasBase point.names Boolean (tree.expression_nodes condition)) _
             (typed_keeps program procedure setting.signatures placed word point.names Boolean condition is.1) (λ e kept_e.
             then_finds (block_finding setting point body) _ (IsWellFormedBlock point (tree.block_nodes body)) _ (block_keeps point body is.2) (λ done kept.
             then_finds (block_finding setting done.0 otherwise) _ (IsWellFormedBlock done.0 (tree.block_nodes otherwise)) _ (block_keeps done.0 otherwise is.3)
             (λ other kept_other.
-            if_else_keeps point at (tree.block_nodes body) (tree.block_nodes otherwise) e (tree.expression_nodes condition) kept_e done kept other kept_other)))
+            if_keeps point at (tree.block_nodes body) (tree.block_nodes otherwise) e (tree.expression_nodes condition) kept_e done kept other kept_other)))
         statement_keeps point (WhileTree at condition body) is =
             then_finds (typed_finding point.names Boolean condition) _ (HasBase point.names Boolean (tree.expression_nodes condition)) _
             (typed_keeps program procedure setting.signatures placed word point.names Boolean condition is.1) (λ e kept_e.

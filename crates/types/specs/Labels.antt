@@ -11,7 +11,8 @@ use Rattle.resolved.specs.declared.expression.Variable.TheVariants.{Global, Loca
 use Rattle.syntax.specs.Tree.{NameTree, ComponentTree, PolicyComponent, VariableComponent, LabelTree}
 use Rattle.types.specs.declared.fault.TypeRefusalKind.TheVariants as refusals
 use Rattle.types.specs.Environment.{Environment, use_as, variable_of}
-use Rattle.types.specs.Finding.{Finding, give, found_or, along, of_each, ◌>>=◌}
+use Rattle.common.specs.Results.{along, ◌>>=◌}
+use Rattle.types.specs.Finding.{Finding, give, found_or, of_each}
 
 -- what a label may name where it stands: the principals, and the variables among the names in scope, of which the globals are those
 -- that are declared before it, and the slots those of the parameters and locals

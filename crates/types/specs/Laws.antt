@@ -13,7 +13,8 @@ use Rattle.resolved.specs.declared.expression.Variable.TheVariants.{Global, Loca
 use Rattle.types.specs.declared.scope.Meaning.{Meaning}
 use Rattle.types.specs.declared.scope.ItemKind.TheVariants.{Channel, Exception, Procedure}
 use Rattle.types.specs.declared.scope.Meaning.TheVariants as meanings
-use Rattle.types.specs.Finding.{give, along}
+use Rattle.common.specs.Results.{along}
+use Rattle.types.specs.Finding.{give}
 use Rattle.types.specs.Resolution.{TopLevel, item_name, resolution, next_name, built_in}
 use Rattle.common.specs.declared.limits.TheConstants.{MAX_TEXT}
 

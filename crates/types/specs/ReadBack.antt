@@ -6,24 +6,16 @@
 use Rattle.std.specs.Prelude.{◌≡◌, ℕ, List, [], ◌∷◌, ◌++◌, length, map, Bool, Option, Some, None, if◌then◌else◌, bytes_eq, slice_get}
 use Rattle.principals.specs.ActsFor.{PrincipalHierarchy}
 use Rattle.common.specs.declared.base_type.BaseType.{BaseType}
-use Rattle.syntax.specs.declared.tree.UnaryOperator.{UnaryOperator}
-use Rattle.syntax.specs.declared.tree.UnaryOperator.TheVariants as unary
+use Rattle.common.specs.declared.operator.Prefix.{Prefix}
+use Rattle.common.specs.declared.operator.Comparison.TheVariants.{Matched}
+use Rattle.common.specs.declared.operator.Connective.{Connective}
 use Rattle.syntax.specs.declared.tree.BinaryOperator.{BinaryOperator}
 use Rattle.syntax.specs.declared.tree.BinaryOperator.TheVariants as binary
-use Rattle.syntax.specs.Tree.{NameTree, LabelTree, ExpressionTree, IntegerTree, TruthTree, VariableTree, ElementTree, UnaryTree, BinaryTree, CallTree, RightTree, ReceivedTree, CalledTree, ValueTree, SizeTree, StatementTree, DeclareTree, DeclareArrayTree, AssignTree, AssignElementTree, CallTree', ReceiveTree, SendTree, IfTree, IfElseTree, WhileTree, BreakTree, ContinueTree, ThrowTree, ReturnTree, TryTree, NestedTree, BlockTree, BlockOf, StatementTrees, NoStatement, StatementThen, CatchTrees, NoCatch, CatchThen, ChannelTree, GlobalTree, ParameterTree, ThrownTree, ProcedureTree, ItemTree, ChannelItem, ExceptionItem, GlobalItem, ProcedureItem, ProgramTree}
+use Rattle.syntax.specs.Tree.{NameTree, LabelTree, ExpressionTree, IntegerTree, TruthTree, VariableTree, ElementTree, UnaryTree, BinaryTree, CallTree, RightTree, ReceivedTree, CalledTree, ValueTree, SizeTree, StatementTree, DeclareTree, DeclareArrayTree, AssignTree, AssignElementTree, CallTree', ReceiveTree, SendTree, IfTree, WhileTree, BreakTree, ContinueTree, ThrowTree, ReturnTree, TryTree, NestedTree, BlockTree, BlockOf, StatementTrees, NoStatement, StatementThen, CatchTrees, NoCatch, CatchThen, ChannelTree, GlobalTree, ParameterTree, ThrownTree, ProcedureTree, ItemTree, ChannelItem, ExceptionItem, GlobalItem, ProcedureItem, ProgramTree}
 use Rattle.resolved.specs.declared.expression.Variable.{Variable}
 use Rattle.resolved.specs.declared.expression.Variable.TheVariants.{Global, Local}
-use Rattle.resolved.specs.declared.expression.Prefix.{Prefix}
-use Rattle.resolved.specs.declared.expression.Prefix.TheVariants as prefixes
 use Rattle.resolved.specs.declared.expression.Operator.{Operator}
-use Rattle.resolved.specs.declared.expression.Operator.TheVariants.{Compute, Divide, Bits, Compare, Match}
-use Rattle.resolved.specs.declared.expression.Computation.TheVariants as computations
-use Rattle.resolved.specs.declared.expression.Division.TheVariants as divisions
-use Rattle.resolved.specs.declared.expression.BitOperator.TheVariants as bits
-use Rattle.resolved.specs.declared.expression.Relation.TheVariants as relations
-use Rattle.resolved.specs.declared.expression.Sameness.TheVariants as samenesses
-use Rattle.resolved.specs.declared.expression.Connective.{Connective}
-use Rattle.resolved.specs.declared.expression.Connective.TheVariants as connectives
+use Rattle.resolved.specs.declared.expression.Operator.TheVariants.{Compute, Compare, Match}
 use Rattle.resolved.specs.declared.statement.Exit.TheVariants as exits
 use Rattle.common.specs.Exceptions.{built_in_names}
 use Rattle.resolved.specs.Program.{Program, SlotEntry, ThrownEntry, ProcedureEntry}
@@ -93,35 +85,11 @@ IsVariable program scope name (Local n) = innermost scope.visible name.text ≡ 
 
 -- ---- expressions
 
--- how operators are written
-abbrev pub written_prefix : Prefix → UnaryOperator
-written_prefix prefixes.Negate = unary.Negate
-written_prefix prefixes.Not = unary.Not
-
+-- how an operator is written
 abbrev pub written_operator : Operator → BinaryOperator
-written_operator (Compute computations.Add) = binary.Add
-written_operator (Compute computations.Subtract) = binary.Subtract
-written_operator (Compute computations.Multiply) = binary.Multiply
-written_operator (Divide divisions.Quotient) = binary.Divide
-written_operator (Divide divisions.Remainder) = binary.Remainder
-written_operator (Bits bits.BitAnd) = binary.BitAnd
-written_operator (Bits bits.BitOr) = binary.BitOr
-written_operator (Bits bits.BitXor) = binary.BitXor
-written_operator (Bits bits.ShiftLeft) = binary.ShiftLeft
-written_operator (Bits bits.ShiftRight) = binary.ShiftRight
-written_operator (Bits bits.ShiftRightUnsigned) = binary.ShiftRightUnsigned
-written_operator (Compare relations.LessThan) = binary.LessThan
-written_operator (Compare relations.AtMost) = binary.AtMost
-written_operator (Compare relations.GreaterThan) = binary.GreaterThan
-written_operator (Compare relations.AtLeast) = binary.AtLeast
-written_operator (Compare relations.Equal) = binary.EqualTo
-written_operator (Compare relations.Unequal) = binary.NotEqualTo
-written_operator (Match samenesses.Same) = binary.EqualTo
-written_operator (Match samenesses.Different) = binary.NotEqualTo
-
-abbrev pub written_connective : Connective → BinaryOperator
-written_connective connectives.And = binary.And
-written_connective connectives.Or = binary.Or
+written_operator (Compute operator) = binary.Compute operator
+written_operator (Compare comparison) = binary.Compare comparison
+written_operator (Match sameness) = binary.Compare (Matched sameness)
 
 -- a written expression, and the resolved one
 pub data ReadsExpression (program : Program) (scope : NameScope) : ExpressionTree → Expression → Type 0 where
@@ -132,15 +100,14 @@ pub data ReadsExpression (program : Program) (scope : NameScope) : ExpressionTre
   ReadElement : {array : NameTree} {index : ExpressionTree} {a : Variable} {size : ℕ} {i : Expression}
       → IsVariable program scope array a → ReadsExpression program scope index i
       → ReadsExpression program scope (ElementTree array index) (Element a size i)
-  ReadUnary : {at : ℕ} {operator : UnaryOperator} {operand : ExpressionTree} {prefix : Prefix} {e : Expression}
-      → written_prefix prefix ≡ operator → ReadsExpression program scope operand e
-      → ReadsExpression program scope (UnaryTree at operator operand) (Unary prefix e)
+  ReadUnary : {at : ℕ} {prefix : Prefix} {operand : ExpressionTree} {e : Expression} → ReadsExpression program scope operand e
+      → ReadsExpression program scope (UnaryTree at prefix operand) (Unary prefix e)
   ReadBinary : {at : ℕ} {operator : BinaryOperator} {left right : ExpressionTree} {made : Operator} {d e : Expression}
       → written_operator made ≡ operator → ReadsExpression program scope left d → ReadsExpression program scope right e
       → ReadsExpression program scope (BinaryTree at operator left right) (Binary made d e)
-  ReadShort : {at : ℕ} {operator : BinaryOperator} {left right : ExpressionTree} {made : Connective} {d e : Expression}
-      → written_connective made ≡ operator → ReadsExpression program scope left d → ReadsExpression program scope right e
-      → ReadsExpression program scope (BinaryTree at operator left right) (Short made d e)
+  ReadShort : {at : ℕ} {connective : Connective} {left right : ExpressionTree} {d e : Expression}
+      → ReadsExpression program scope left d → ReadsExpression program scope right e
+      → ReadsExpression program scope (BinaryTree at (binary.Connect connective) left right) (Short connective d e)
 
 -- arguments, one by one
 pub data ReadsArguments (program : Program) (scope : NameScope) : List ExpressionTree → List Expression → Type 0 where
@@ -184,13 +151,10 @@ mutual
     ReadSend : {scope : NameScope} {at n : ℕ} {channel : NameTree} {value : ExpressionTree} {e : Expression}
         → IsChannel program scope channel n → ReadsExpression program scope value e
         → ReadsStatement program scope (SendTree at channel value) (Send at n e) scope
-    ReadIf : {scope after : NameScope} {at : ℕ} {condition : ExpressionTree} {e : Expression} {body : BlockTree} {b : Block}
-        → ReadsExpression program scope condition e → ReadsBlock program scope body b after
-        → ReadsStatement program scope (IfTree at condition body) (If at e b Empty) after
-    ReadIfElse : {scope between after : NameScope} {at : ℕ} {condition : ExpressionTree} {e : Expression} {body otherwise : BlockTree}
+    ReadIf : {scope between after : NameScope} {at : ℕ} {condition : ExpressionTree} {e : Expression} {body otherwise : BlockTree}
         {b c : Block} → ReadsExpression program scope condition e → ReadsBlock program scope body b between
         → ReadsBlock program between otherwise c after
-        → ReadsStatement program scope (IfElseTree at condition body otherwise) (If at e b c) after
+        → ReadsStatement program scope (IfTree at condition body otherwise) (If at e b c) after
     ReadWhile : {scope after : NameScope} {at loop : ℕ} {condition : ExpressionTree} {e : Expression} {body : BlockTree} {b : Block}
         → ReadsExpression program scope condition e → ReadsBlock program scope body b after
         → ReadsStatement program scope (WhileTree at condition body) (While at loop e b) after

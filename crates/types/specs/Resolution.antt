@@ -20,7 +20,8 @@ use Rattle.types.specs.declared.fault.TypeRefusalKind.TheVariants as refusals
 use Rattle.types.specs.declared.scope.ItemKind.TheVariants.{Channel, Exception, Procedure}
 use Rattle.types.specs.declared.scope.Meaning.{Meaning}
 use Rattle.types.specs.declared.scope.Meaning.TheVariants as meanings
-use Rattle.types.specs.Finding.{Finding, give, found_or, give_if, require, along, ◌>>=◌}
+use Rattle.common.specs.Results.{along, ◌>>=◌}
+use Rattle.types.specs.Finding.{Finding, give, found_or, give_if, require}
 use Rattle.types.specs.Environment.{Environment, declaring, fresh_finding, use_as, item_of}
 use Rattle.types.specs.Labels.{LabelScope, label_finding, optional_label_finding}
 use Rattle.types.specs.Statements.{Signature, Setting, Point, with_local, slot_of, size_finding, block_finding}
@@ -47,12 +48,6 @@ built_in = record {
   signatures = [];
 }
 
-abbrev pub item_name : ItemTree → NameTree
-item_name (ChannelItem channel) = channel.name
-item_name (ExceptionItem at name) = name
-item_name (GlobalItem global) = global.name
-item_name (ProcedureItem procedure) = procedure.name
-
 -- the length of a global that is an array
 abbrev pub size_of : GlobalValueTree → Option ℕ
 size_of (ScalarTree constant) = None
@@ -66,36 +61,28 @@ abbrev pub signature_of : ProcedureTree → Signature
 signature_of written =
     record { parameters = map (λ (one : ParameterTree). one.base) written.parameters; result = result_base_of written.result }
 
--- what the name of the next item stands for
-abbrev pub item_meaning : TopLevel → ItemTree → Meaning
-item_meaning top (ChannelItem channel) = meanings.Item (Channel channel.direction) top.channels
-item_meaning top (ExceptionItem at name) = meanings.Item Exception top.exceptions
-item_meaning top (GlobalItem global) = meanings.Variable (Global top.globals) global.base (size_of global.value)
-item_meaning top (ProcedureItem procedure) = meanings.Item Procedure (length top.signatures)
+-- the top level with one more name, which nothing in scope has
+abbrev pub with_name : TopLevel → NameTree → Meaning → Finding TopLevel
+with_name top name meaning = do
+  _ ← fresh_finding (top.names name.text) name.at
+  give (record top { names = declaring name.text meaning top.names })
 
--- one more item of each kind
-abbrev pub counted : TopLevel → ItemTree → TopLevel
-counted top (ChannelItem channel) = record top { channels = top.channels + 1 }
-counted top (ExceptionItem at name) = record top { exceptions = top.exceptions + 1 }
-counted top (GlobalItem global) = record top { globals = top.globals + 1 }
-counted top (ProcedureItem procedure) = record top { signatures = top.signatures ++ signature_of procedure ∷ [] }
-
--- the top level with the next item
+-- the top level with the next item, which takes the next number of its kind
 unfoldable pub next_name : TopLevel → ItemTree → Finding TopLevel
-next_name top item = do
-  _ ← fresh_finding (top.names (item_name item).text) (item_name item).at
-  give (record (counted top item) { names = declaring (item_name item).text (item_meaning top item) top.names })
+next_name top (ChannelItem channel) =
+    with_name (record top { channels = top.channels + 1 }) channel.name (meanings.Item (Channel channel.direction) top.channels)
+next_name top (ExceptionItem at name) = with_name (record top { exceptions = top.exceptions + 1 }) name (meanings.Item Exception top.exceptions)
+next_name top (GlobalItem global) =
+    with_name (record top { globals = top.globals + 1 }) global.name (meanings.Variable (Global top.globals) global.base (size_of global.value))
+next_name top (ProcedureItem procedure) =
+    with_name (record top { signatures = top.signatures ++ signature_of procedure ∷ [] }) procedure.name
+    (meanings.Item Procedure (length top.signatures))
 
 -- ---- channels and globals
 
 -- what the labels of an item may name, but for those within the body of a procedure: the globals that are declared before it
 abbrev pub heads : PrincipalHierarchy → TopLevel → List GlobalEntry → LabelScope
 heads h top globals = record { hierarchy = h; names = top.names; globals = globals; slots = [] }
-
-unfoldable pub channel_finding : LabelScope → ChannelTree → Finding ChannelEntry
-channel_finding scope channel = do
-  label ← label_finding scope channel.label
-  give (record { direction = channel.direction; name = channel.name.text; label = label })
 
 -- the length of a global that is an array, and what its cells hold at first
 unfoldable pub first_finding : BaseType → GlobalValueTree → Finding (Option ℕ × Value)
@@ -106,12 +93,6 @@ first_finding base (ScalarTree (TruthConstant at value)) =
 first_finding base (ArrayTree size) = do
   length_of ← size_finding size
   give (Some length_of, zero_value base)
-
-unfoldable pub global_finding : LabelScope → GlobalTree → Finding GlobalEntry
-global_finding scope global = do
-  label ← label_finding scope global.label
-  (size, first) ← first_finding global.base global.value
-  give (record { name = global.name.text; base = global.base; size = size; label = label; first = first })
 
 -- ---- procedures
 
@@ -170,11 +151,14 @@ empty_program =
 -- with the next item
 unfoldable pub next_item : PrincipalHierarchy → TopLevel → Program → ItemTree → Finding Program
 next_item h top tables (ChannelItem channel) = do
-  entry ← channel_finding (heads h top tables.globals) channel
+  label ← label_finding (heads h top tables.globals) channel.label
+  let entry : ChannelEntry = record { direction = channel.direction; name = channel.name.text; label = label }
   give (record tables { channels = tables.channels ++ entry ∷ [] })
 next_item h top tables (ExceptionItem at name) = give (record tables { exceptions = tables.exceptions ++ name.text ∷ [] })
 next_item h top tables (GlobalItem global) = do
-  entry ← global_finding (heads h top tables.globals) global
+  label ← label_finding (heads h top tables.globals) global.label
+  (size, first) ← first_finding global.base global.value
+  let entry : GlobalEntry = record { name = global.name.text; base = global.base; size = size; label = label; first = first }
   give (record tables { globals = tables.globals ++ entry ∷ [] })
 next_item h top tables (ProcedureItem procedure) = do
   entry ← procedure_entry_finding (heads h top tables.globals) top.signatures procedure
@@ -226,3 +210,34 @@ is_thrown throws exception = list_any (λ (one : ThrownEntry). one.exception == 
 -- a label joined by those of exceptions
 abbrev pub joined_all : Label → List ThrownEntry → Label
 joined_all label throws = fold (λ label (thrown : ThrownEntry). joined label thrown.label) label throws
+
+-- the name of an item, what it stands for, and the numbers after it
+abbrev pub item_name : ItemTree → NameTree
+item_name (ChannelItem channel) = channel.name
+item_name (ExceptionItem at name) = name
+item_name (GlobalItem global) = global.name
+item_name (ProcedureItem procedure) = procedure.name
+
+abbrev pub item_meaning : TopLevel → ItemTree → Meaning
+item_meaning top (ChannelItem channel) = meanings.Item (Channel channel.direction) top.channels
+item_meaning top (ExceptionItem at name) = meanings.Item Exception top.exceptions
+item_meaning top (GlobalItem global) = meanings.Variable (Global top.globals) global.base (size_of global.value)
+item_meaning top (ProcedureItem procedure) = meanings.Item Procedure (length top.signatures)
+
+abbrev pub counted : TopLevel → ItemTree → TopLevel
+counted top (ChannelItem channel) = record top { channels = top.channels + 1 }
+counted top (ExceptionItem at name) = record top { exceptions = top.exceptions + 1 }
+counted top (GlobalItem global) = record top { globals = top.globals + 1 }
+counted top (ProcedureItem procedure) = record top { signatures = top.signatures ++ signature_of procedure ∷ [] }
+
+-- the entry of a channel, and of a global
+unfoldable pub channel_finding : LabelScope → ChannelTree → Finding ChannelEntry
+channel_finding scope channel = do
+  label ← label_finding scope channel.label
+  give (record { direction = channel.direction; name = channel.name.text; label = label })
+
+unfoldable pub global_finding : LabelScope → GlobalTree → Finding GlobalEntry
+global_finding scope global = do
+  label ← label_finding scope global.label
+  (size, first) ← first_finding global.base global.value
+  give (record { name = global.name.text; base = global.base; size = size; label = label; first = first })

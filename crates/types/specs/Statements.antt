@@ -5,7 +5,7 @@
 use Rattle.std.specs.Prelude.{ℕ, ◌+◌, List, [], ◌∷◌, ◌++◌, length, Bool, false, ◌==◌, ◌&&◌, nat_lt, nat_le, is_none, Option, Some, None, slice_index_or}
 use Rattle.labels.specs.Label.{Label}
 use Rattle.common.specs.declared.direction.Direction.TheVariants.{Input, Output}
-use Rattle.syntax.specs.Tree.{NameTree, LabelTree, ExpressionTree, CallTree, RightTree, ReceivedTree, CalledTree, ValueTree, SizeTree, StatementTree, DeclareTree, DeclareArrayTree, AssignTree, AssignElementTree, CallTree', ReceiveTree, SendTree, IfTree, IfElseTree, WhileTree, BreakTree, ContinueTree, ThrowTree, ReturnTree, TryTree, NestedTree, BlockTree, BlockOf, StatementTrees, NoStatement, StatementThen, CatchTrees, NoCatch, CatchThen, expression_at}
+use Rattle.syntax.specs.Tree.{NameTree, LabelTree, ExpressionTree, CallTree, RightTree, ReceivedTree, CalledTree, ValueTree, SizeTree, StatementTree, DeclareTree, DeclareArrayTree, AssignTree, AssignElementTree, CallTree', ReceiveTree, SendTree, IfTree, WhileTree, BreakTree, ContinueTree, ThrowTree, ReturnTree, TryTree, NestedTree, BlockTree, BlockOf, StatementTrees, NoStatement, StatementThen, CatchTrees, NoCatch, CatchThen, expression_at}
 use Rattle.common.specs.declared.base_type.BaseType.{BaseType}
 use Rattle.common.specs.declared.base_type.BaseType.TheVariants.{Int, Boolean}
 use Rattle.resolved.specs.declared.expression.Variable.{Variable}
@@ -17,7 +17,8 @@ use Rattle.resolved.specs.WellFormed.{same_base}
 use Rattle.types.specs.declared.fault.TypeRefusalKind.TheVariants as refusals
 use Rattle.types.specs.declared.scope.ItemKind.TheVariants.{Channel, Exception, Procedure}
 use Rattle.types.specs.declared.scope.Meaning.TheVariants as meanings
-use Rattle.types.specs.Finding.{Finding, give, refuse, give_if, require, along, put_last, ◌>>=◌}
+use Rattle.common.specs.Results.{along, ◌>>=◌}
+use Rattle.types.specs.Finding.{Finding, give, refuse, give_if, require, put_last}
 use Rattle.types.specs.Environment.{Environment, declaring, fresh_finding, use_as, item_of, scalar_of, array_of}
 use Rattle.types.specs.Labels.{LabelScope, optional_label_finding}
 use Rattle.types.specs.Expressions.{Typed, expression_finding, typed_finding}
@@ -143,11 +144,7 @@ unfoldable mutual
     number ← use_as (item_of (Channel Output)) (point.names channel.text) channel.at
     e ← typed_finding point.names Int value
     give (point, Send at number e)
-  statement_finding setting point (IfTree at condition body) = do
-    e ← typed_finding point.names Boolean condition
-    inner ← block_finding setting point body
-    give (inner.0, If at e inner.1 Empty)
-  statement_finding setting point (IfElseTree at condition body otherwise) = do
+  statement_finding setting point (IfTree at condition body otherwise) = do
     e ← typed_finding point.names Boolean condition
     inner ← block_finding setting point body
     other ← block_finding setting inner.0 otherwise

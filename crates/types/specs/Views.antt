@@ -29,7 +29,8 @@ use Rattle.types.specs.declared.body.BodyScope.{BodyScope}
 use Rattle.types.specs.declared.expression.TypedExpression.{TypedExpression}
 use Rattle.common.specs.Answers.{Answers}
 use Rattle.common.specs.declared.fault.OrNoMemory.{OrNoMemory}
-use Rattle.types.specs.declared.fault.TypeRefusal.{TypeRefusal}
+use Rattle.common.specs.declared.refusal.RefusalAt.{RefusalAt}
+use Rattle.types.specs.declared.fault.TypeRefusalKind.{TypeRefusalKind}
 use Rattle.types.specs.declared.label.ItemContext.{ItemContext}
 use Rattle.types.specs.declared.label.LabelContext.{LabelContext}
 use Rattle.types.specs.declared.variables.NewSlot.{NewSlot}
@@ -44,7 +45,8 @@ use Rattle.types.specs.declared.statement.UsedCall.{UsedCall}
 use Rattle.types.specs.declared.top.CodeSignature.{CodeSignature}
 use Rattle.types.specs.declared.top.TopNames.{TopNames}
 use Rattle.syntax.specs.Tree.{ProcedureTree}
-use Rattle.types.specs.Finding.{Finding, IsRefusalOf, ◌>>=◌}
+use Rattle.common.specs.Results.{◌>>=◌}
+use Rattle.types.specs.Finding.{Finding, IsRefusalOf}
 use Rattle.types.specs.Environment.{Environment}
 use Rattle.types.specs.Labels.{LabelScope}
 use Rattle.types.specs.Expressions.{Typed}
@@ -53,7 +55,7 @@ use Rattle.types.specs.Resolution.{TopLevel, empty_program, heads, result_base_o
 use Rattle.types.specs.VariableEntries.{VariableEntries, IsInside, IsProcedureInside, optional_label_with}
 
 -- what a function gave is what is found: a value or a refusal, unless memory ran out
-abbrev pub Resolves : {X A : Type 0} → (X → A) → Result X (OrNoMemory TypeRefusal) → Finding A → Type 0
+abbrev pub Resolves : {X A : Type 0} → (X → A) → Result X (OrNoMemory (RefusalAt TypeRefusalKind)) → Finding A → Type 0
 Resolves view result finding = Answers (λ x. finding ≡ Ok (view x)) (IsRefusalOf finding) result
 
 -- the first, and then the second with what the first found

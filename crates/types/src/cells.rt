@@ -1,7 +1,8 @@
 //! How many cells the globals have, and each frame.
 
 ghost use Rattle.common.specs.declared.limits.TheConstants.{MAX_CELLS};
-ghost use Rattle.types.specs.Finding.{along, require};
+ghost use Rattle.common.specs.Results.{along};
+ghost use Rattle.types.specs.Finding.{require};
 ghost use Rattle.types.specs.Resolution.{next_frame, next_global_cells};
 ghost use Rattle.types.specs.Views.{Resolves, cells_of_slots, itself, tables_view};
 ghost use Rattle.resolved.specs.WellFormed.{cell_count};

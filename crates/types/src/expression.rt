@@ -8,13 +8,11 @@ ghost use Rattle.syntax.specs.Tree.{BinaryTree, ElementTree, UnaryTree, expressi
 
 use crate::body::BodyScope;
 use crate::fault::{TypeFault, TypeRefusal, TypeRefusalKind};
-use crate::operator::{
-    base_of_prefix, combine, is_same, operands_base, prefix_of, use_of, value_base,
-};
+use crate::operator::{base_of_prefix, combine, is_same, operands_base, value_base};
 use crate::scope::{require_array, require_scalar};
-use common::{BaseType, OrNoMemory};
+use common::{BaseType, OrNoMemory, Prefix};
 use resolved::expression::Expression;
-use syntax::{BinaryOperator, Name, UnaryOperator};
+use syntax::{BinaryOperator, Name};
 
 /// An expression with the type of its values.
 #[derive(Drop)]
@@ -118,13 +116,12 @@ impl<'a, 'n> BodyScope<'a, 'n> {
     #[tactic(auto, unfolding(crate::specs::Expressions::expression_finding))]
     fn resolve_unary(
         &self,
-        operator: UnaryOperator,
+        prefix: Prefix,
         operand: &syntax::Expression<'_>,
     ) -> Result<TypedExpression, TypeFault>
         ensures { (at : ℕ) → Resolves typed_view result (expression_finding (names_of self.now)
-            (UnaryTree at operator (expression_tree operand.now))) }
+            (UnaryTree at prefix (expression_tree operand.now))) }
     {
-        let prefix = prefix_of(operator);
         let base = base_of_prefix(prefix);
         let operand = self
             .resolve_expression(operand)?
@@ -145,16 +142,15 @@ impl<'a, 'n> BodyScope<'a, 'n> {
         ensures { (at : ℕ) → Resolves typed_view result (expression_finding (names_of self.now)
             (BinaryTree at operator (expression_tree left.now) (expression_tree right.now))) }
     {
-        let used = use_of(operator);
         let found = self.resolve_expression(left)?;
-        let base = operands_base(used, found.base);
+        let base = operands_base(operator, found.base);
         let given = found.base;
         let left = found.require_base(base, left.at())?;
         let right = self
             .resolve_expression(right)?
             .require_base(base, right.at())?;
-        let made = combine(self.alloc, used, given, left, right)?;
-        Ok(TypedExpression::new(made, value_base(used)))
+        let made = combine(self.alloc, operator, given, left, right)?;
+        Ok(TypedExpression::new(made, value_base(operator)))
     }
 
     /// Resolves an expression at a place that wants a type.

@@ -1,10 +1,4 @@
-ghost use Rattle.types.specs.RefusalKinds.{name_message};
-ghost use Rattle.std.specs.Prelude.{Some};
-
-use common::{Message, OrNoMemory, Reported};
-use principals::HierarchyRefusalKind;
-use std::error::Error;
-use std::fmt;
+use common::{OrNoMemory, RefusalAt};
 
 /// What can be wrong with the names, types and sizes of a program.
 #[derive(Clone, Copy, Debug, PartialEq, Eq, Drop)]
@@ -31,43 +25,8 @@ pub enum TypeRefusalKind {
     TooManyCells,
 }
 
-impl Reported for TypeRefusalKind {
-    ghost contents = { name_message };
-
-    fn message(&self) -> Message {
-        match self {
-            TypeRefusalKind::UnknownName => Message::new(301, "unknown name"),
-            TypeRefusalKind::DeclaredTwice => Message::new(302, "declared twice"),
-            TypeRefusalKind::UnknownPrincipal => {
-                Message::new(303, HierarchyRefusalKind::UnknownPrincipal.words())
-            }
-            TypeRefusalKind::NoProperMain => Message::new(304, "no proper main"),
-            TypeRefusalKind::LabelNotWritten => Message::new(305, "label not written"),
-            TypeRefusalKind::WrongType => Message::new(401, "wrong type"),
-            TypeRefusalKind::WrongArgumentCount => Message::new(402, "wrong argument count"),
-            TypeRefusalKind::WrongUse => Message::new(403, "wrong use"),
-            TypeRefusalKind::ArraySize => Message::new(703, "array size"),
-            TypeRefusalKind::TooManyCells => Message::new(704, "too many cells"),
-        }
-    }
-}
-
 /// Why a syntax tree has no resolved one: what is wrong, and the byte at which it stands.
-#[derive(Clone, Copy, Debug, PartialEq, Eq, Drop)]
-pub struct TypeRefusal {
-    pub kind: TypeRefusalKind,
-    pub at: usize,
-}
-
-impl fmt::Display for TypeRefusal {
-    ghost output = { λ refusal. Some (name_message refusal.kind).words };
-
-    fn fmt<W: fmt::Write>(&self, f: &mut fmt::Formatter<W>) -> fmt::Result {
-        write!(f, "{}", self.kind.words())
-    }
-}
-
-impl Error for TypeRefusal {}
+pub type TypeRefusal = RefusalAt<TypeRefusalKind>;
 
 /// Why a syntax tree gave no resolved one.
 pub type TypeFault = OrNoMemory<TypeRefusal>;

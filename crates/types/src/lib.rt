@@ -10,6 +10,7 @@ mod fault;
 mod item;
 mod label;
 pub mod laws;
+mod message;
 mod operator;
 mod procedure;
 mod program;

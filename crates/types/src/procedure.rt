@@ -2,7 +2,7 @@
 
 ghost use Rattle.indexmap.specs.IndexSet.{contains};
 ghost use Rattle.labels.specs.LabelTable.{label_at};
-ghost use Rattle.types.specs.Finding.{along};
+ghost use Rattle.common.specs.Results.{along};
 ghost use Rattle.types.specs.Resolution.{is_thrown, joined_all, next_parameter, next_thrown, procedure_entry_finding, result_finding};
 ghost use Rattle.types.specs.VariableEntries.{AreThrownLabelsInside, HasMoreLabels, IsInside, IsOptionInside, IsProcedureInside, IsResultInside};
 ghost use Rattle.types.specs.Views.{Resolves, IsLater, item_scope, item_scope_of, point_of, taken, throws_view, top_view};

@@ -1,7 +1,8 @@
 //! Whole programs: their tables, and the procedure at which a run begins.
 
 ghost use Rattle.common.specs.Answers.{IfRefused};
-ghost use Rattle.types.specs.Finding.{IsRefusalOf, along, give};
+ghost use Rattle.common.specs.Results.{along};
+ghost use Rattle.types.specs.Finding.{IsRefusalOf, give};
 ghost use Rattle.types.specs.Resolution.{empty_program, main_finding, next_item, resolution};
 ghost use Rattle.types.specs.Views.{Resolves, AreTablesInside, itself, program_with, tables_view, top_view};
 ghost use Rattle.resolved.specs.CoreOf.{program_of};

@@ -11,12 +11,12 @@ use std::alloc::{AllocError, Global};
 use std::collections::BTreeMap;
 
 /// How far hashes of 32 bits are shifted where there is no bucket yet, in a table of 16,384 buckets, and in the largest table, which
-/// has 65,536.
+/// has 32,768.
 pub const NO_BUCKETS: u32 = 29;
 
 const MANY_BUCKETS: u32 = 18;
 
-pub const MOST_BUCKETS: u32 = 16;
+pub const MOST_BUCKETS: u32 = 17;
 
 /// What a bucket knows of the numbers that lead to it.
 #[derive(Clone, Copy, Debug)]

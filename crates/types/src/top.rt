@@ -1,7 +1,8 @@
 //! The top level of a program: what the names of its items stand for.
 
 ghost use Rattle.common.specs.declared.exceptions.TheConstants.{BUILT_IN};
-ghost use Rattle.types.specs.Finding.{along, give};
+ghost use Rattle.common.specs.Results.{along};
+ghost use Rattle.types.specs.Finding.{give};
 ghost use Rattle.types.specs.Resolution.{built_in, size_of, item_meaning, item_name, next_name, result_base_of, signature_of};
 ghost use Rattle.types.specs.Statements as spec;
 ghost use Rattle.types.specs.Views.{Resolves, signature_view, top_view};
@@ -149,7 +150,6 @@ impl TopNames {
     }
 
     /// Declares the name of the next item.
-    #[tactic(auto, unfolding(crate::specs::Resolution::next_name))]
     fn add(&mut self, alloc: Global, item: &Item<'_>) -> Result<(), TypeFault>
         requires room { self.old.channels + self.old.exceptions + self.old.globals +
             length self.old.signatures.items < most_nodes + BUILT_IN }

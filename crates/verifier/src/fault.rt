@@ -1,7 +1,7 @@
 ghost use Rattle.std.specs.Prelude.{Some};
 ghost use Rattle.verifier.specs.RefusalKinds.{code_message};
 
-use common::{Message, OrNoMemory, Reported};
+use common::{OrNoMemory, Reported};
 use std::error::Error;
 use std::fmt;
 
@@ -18,20 +18,6 @@ pub enum CodeRefusalKind {
     SlotOrIndex,
     /// 815: control comes to the end of the code.
     FallsOffEnd,
-}
-
-impl Reported for CodeRefusalKind {
-    ghost contents = { code_message };
-
-    fn message(&self) -> Message {
-        match self {
-            CodeRefusalKind::Jump => Message::new(811, "jump"),
-            CodeRefusalKind::OperandKind => Message::new(812, "operand kind"),
-            CodeRefusalKind::OperandDepth => Message::new(813, "operand depth"),
-            CodeRefusalKind::SlotOrIndex => Message::new(814, "slot or index"),
-            CodeRefusalKind::FallsOffEnd => Message::new(815, "falls off the end"),
-        }
-    }
 }
 
 /// What a module's code is refused for: what is wrong, and the procedure and the byte offset where.

@@ -10,6 +10,7 @@ mod fixed;
 mod index;
 pub mod loading;
 mod looking;
+mod message;
 mod numbers;
 mod operands;
 mod parameters;

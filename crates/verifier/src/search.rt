@@ -413,10 +413,10 @@ impl ReachedOffsets {
         requires searching { IsSearching body.now.program.now body.now.procedure.now self.old
             (at ∷ []) }
         requires there { HasInstruction body.now.procedure.now self.old at }
+        requires room { length self.old.operands + left self.old < 2 ^ 32 }
         requires boundaries { KeepsBoundaries body.now.procedure.now }
         requires waiting { IsWaiting body.now.procedure.now coverage.old self.old }
         requires body { IsSearchableBody body.now }
-        requires room { length self.old.operands + left self.old < 2 ^ 32 }
         ensures accepted { OnOk result (IsSearching body.now.program.now body.now.procedure.now
             self.new []) }
         ensures waiting { OnOk result (IsWaiting body.now.procedure.now coverage.new self.new) }

@@ -4,26 +4,25 @@ use Rattle.std.specs.Prelude.{Some, None}
 use Rattle.std.specs.Int.{int_wrap}
 use Rattle.common.specs.declared.base_type.BaseType.TheVariants.{Int}
 use Rattle.resolved.specs.declared.expression.Variable.TheVariants.{Local}
-use Rattle.resolved.specs.declared.expression.Operator.TheVariants.{Compute, Divide}
-use Rattle.resolved.specs.declared.expression.Computation.TheVariants.{Subtract, Multiply}
-use Rattle.resolved.specs.declared.expression.Division.TheVariants.{Quotient, Remainder}
-use Rattle.resolved.specs.declared.expression.Prefix.TheVariants.{Negate}
+use Rattle.resolved.specs.declared.expression.Operator.TheVariants.{Compute}
+use Rattle.common.specs.declared.operator.Arithmetic.TheVariants.{Subtract, Multiply, Divide, Remainder}
+use Rattle.common.specs.declared.operator.Prefix.TheVariants.{Negate}
 use Rattle.resolved.specs.declared.statement.Exit.TheVariants.{Normal, Return, Break, Continue, Throw}
 use Rattle.resolved.specs.Tree.{Logical, Element, Unary, Binary, Store, Receive, Send, Call, Leave, ReturnWith, Empty, NoMore, Catch}
 use Rattle.resolved.specs.Exits.{raises, statement_exits}
 use Rattle.resolved.specs.ExitFaults.{exit_faults}
 use Rattle.resolved.specs.declared.fault.ExitRefusalKind.{ExitRefusalKind}
 use Rattle.resolved.specs.declared.fault.ExitRefusalKind.TheVariants.{OutsideLoop, Unreachable, NeverRaised, NoValueReturned, Undeclared}
-use Rattle.resolved.specs.declared.fault.ExitRefusal.{ExitRefusal}
+use Rattle.common.specs.declared.refusal.RefusalAt.{RefusalAt}
 use Rattle.resolved.proofs.Cases.Kit.{arith, bounds, end, oops, s_channel, pub_channel, int_slot, array_slot, int, minus, var, set_to, send_public, positive, block, on, try_to, if_then, while_loop, procedure, thrown, program, main_program}
 
-abbrev fault : ExitRefusalKind → ℕ → List ExitRefusal
+abbrev fault : ExitRefusalKind → ℕ → List (RefusalAt ExitRefusalKind)
 fault kind at = record { kind = kind; at = at } ∷ []
 
 -- a nonzero literal divisor, or a minus sign before one, cannot raise; 0 and two signs can
 divisors : map raises (
-    Binary (Divide Quotient) (var 0) (int 2) ∷ Binary (Divide Remainder) (var 0) (minus 2) ∷ Binary (Divide Quotient) (var 0) (int 0) ∷ Binary (Divide Quotient) (var 0) (minus 0)
-    ∷ Binary (Divide Quotient) (var 0) (Unary Negate (minus 2)) ∷ Binary (Compute Multiply) (var 0) (var 1) ∷ [])
+    Binary (Compute Divide) (var 0) (int 2) ∷ Binary (Compute Remainder) (var 0) (minus 2) ∷ Binary (Compute Divide) (var 0) (int 0) ∷ Binary (Compute Divide) (var 0) (minus 0)
+    ∷ Binary (Compute Divide) (var 0) (Unary Negate (minus 2)) ∷ Binary (Compute Multiply) (var 0) (var 1) ∷ [])
     ≡ [] ∷ [] ∷ (arith ∷ []) ∷ (arith ∷ []) ∷ (arith ∷ []) ∷ [] ∷ []
 unfolding int_wrap
 divisors = refl
@@ -44,7 +43,7 @@ loop_exits = refl
 
 -- `try { int y = 1 / x; throw Oops; } catch (Arith) { return; }`
 try_ends : statement_exits (main_program [] []) (
-    try_to (set_to 1 (Binary (Divide Quotient) (int 1) (var 0)) ∷ Leave 0 (Throw oops) ∷ []) (on arith (ReturnWith 0 None ∷ [])))
+    try_to (set_to 1 (Binary (Compute Divide) (int 1) (var 0)) ∷ Leave 0 (Throw oops) ∷ []) (on arith (ReturnWith 0 None ∷ [])))
     ≡ Throw oops ∷ Return ∷ []
 unfolding int_wrap
 try_ends = refl

@@ -5,11 +5,12 @@ use Rattle.labels.specs.Label.{Label}
 use Rattle.common.specs.declared.base_type.BaseType.TheVariants.{Int, Boolean}
 use Rattle.resolved.specs.declared.expression.Variable.TheVariants.{Local}
 use Rattle.resolved.specs.declared.expression.Operator.TheVariants.{Compute, Compare, Match}
-use Rattle.resolved.specs.declared.expression.Computation.TheVariants.{Add}
-use Rattle.resolved.specs.declared.expression.Relation.TheVariants.{LessThan, Equal}
-use Rattle.resolved.specs.declared.expression.Sameness.TheVariants.{Same}
-use Rattle.resolved.specs.declared.expression.Prefix.TheVariants.{Not}
-use Rattle.resolved.specs.declared.expression.Connective.TheVariants.{And, Or}
+use Rattle.common.specs.declared.operator.Arithmetic.TheVariants.{Add}
+use Rattle.common.specs.declared.operator.Comparison.TheVariants.{Ordered, Matched}
+use Rattle.common.specs.declared.operator.Order.TheVariants.{LessThan}
+use Rattle.common.specs.declared.operator.Sameness.TheVariants.{Same}
+use Rattle.common.specs.declared.operator.Prefix.TheVariants.{Not}
+use Rattle.common.specs.declared.operator.Connective.TheVariants.{And, Or}
 use Rattle.resolved.specs.declared.expression.Value.TheVariants.{Number, Truth}
 use Rattle.resolved.specs.declared.statement.Exit.TheVariants.{Normal, Throw}
 use Rattle.resolved.specs.Tree.{Expression, Logical, Element, Unary, Binary, Short, Statement, Clear, Store, Receive, Send, Call, While, Leave, ReturnWith, Nested, Empty}
@@ -30,8 +31,8 @@ boolean_slot = record (int_slot []) { base = Boolean }
 -- numbers, truth values and arrays where they are wanted
 kinds_fit : fitting (int_slot [] ∷ boolean_slot ∷ array_slot 3 alice ∷ []) (
     set_to 0 (Binary (Compute Add) (int 1) (minus 2))
-    ∷ set_to 1 (Short And (Binary (Compare LessThan) (var 0) (int 5)) (Unary Not (var 1)))
-    ∷ set_to 1 (Binary (Match Same) (var 1) (Binary (Compare Equal) (var 0) (int 1)))
+    ∷ set_to 1 (Short And (Binary (Compare (Ordered LessThan)) (var 0) (int 5)) (Unary Not (var 1)))
+    ∷ set_to 1 (Binary (Match Same) (var 1) (Binary (Compare (Matched Same)) (var 0) (int 1)))
     ∷ Clear 0 2 ∷ Store 0 (Local 2) 3 (var 0) (Element (Local 2) 3 (int 0))
     ∷ try_to (Receive 0 s_channel (Some (Local 0)) ∷ Leave 0 (Throw oops) ∷ []) (on oops []) ∷ send_public (var 0) ∷ []) ≡ true
 kinds_fit = refl
@@ -43,7 +44,7 @@ none_fits slots (statement ∷ rest) = (fitting slots (statement ∷ []) ≡ fal
 
 kinds_refused : none_fits (int_slot [] ∷ boolean_slot ∷ array_slot 3 alice ∷ []) (
     set_to 0 (Logical true) ∷ set_to 1 (int 0) ∷ set_to 0 (var 2) ∷ set_to 2 (int 0) ∷ set_to 9 (int 0)
-    ∷ set_to 0 (Binary (Compute Add) (int 1) (var 1)) ∷ set_to 1 (Binary (Compare Equal) (var 1) (var 1)) ∷ set_to 1 (Binary (Match Same) (int 1) (int 1))
+    ∷ set_to 0 (Binary (Compute Add) (int 1) (var 1)) ∷ set_to 1 (Binary (Compare (Matched Same)) (var 1) (var 1)) ∷ set_to 1 (Binary (Match Same) (int 1) (int 1))
     ∷ set_to 0 (Unary Not (int 1)) ∷ set_to 1 (Unary Not (int 1)) ∷ set_to 1 (Short Or (int 1) (var 1))
     ∷ set_to 0 (Element (Local 2) 4 (int 0)) ∷ set_to 0 (Element (Local 2) 3 (var 1)) ∷ set_to 0 (Element (Local 0) 3 (int 0))
     ∷ set_to 0 (int 2147483648)

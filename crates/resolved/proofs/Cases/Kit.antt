@@ -11,8 +11,9 @@ use Rattle.common.specs.declared.sent.Pair.{Pair}
 use Rattle.common.specs.declared.base_type.BaseType.TheVariants.{Int}
 use Rattle.resolved.specs.declared.expression.Variable.TheVariants.{Local}
 use Rattle.resolved.specs.declared.expression.Operator.TheVariants.{Compare}
-use Rattle.resolved.specs.declared.expression.Relation.TheVariants.{GreaterThan}
-use Rattle.resolved.specs.declared.expression.Prefix.TheVariants.{Negate}
+use Rattle.common.specs.declared.operator.Comparison.TheVariants.{Ordered}
+use Rattle.common.specs.declared.operator.Order.TheVariants.{GreaterThan}
+use Rattle.common.specs.declared.operator.Prefix.TheVariants.{Negate}
 use Rattle.common.specs.declared.direction.Direction.TheVariants.{Input, Output}
 use Rattle.resolved.specs.declared.statement.Exit.TheVariants.{Normal, Throw}
 use Rattle.resolved.specs.Tree.{Expression, Integer, Unary, Binary, Statement, Assign, Receive, Send, If, While, Try, Block, Empty, Then, Handlers, NoMore, Catch}
@@ -73,7 +74,7 @@ abbrev pub send_public : Expression → Statement
 send_public e = Send 0 pub_channel e
 
 abbrev pub positive : Expression → Expression
-positive e = Binary (Compare GreaterThan) e (Integer 0)
+positive e = Binary (Compare (Ordered GreaterThan)) e (Integer 0)
 
 abbrev pub block : List Statement → Block
 block [] = Empty

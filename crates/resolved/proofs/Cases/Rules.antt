@@ -7,11 +7,12 @@ use Rattle.std.specs.Int.{int_wrap}
 use Rattle.labels.specs.Label.{Label}
 use Rattle.common.specs.declared.base_type.BaseType.TheVariants.{Int}
 use Rattle.resolved.specs.declared.expression.Variable.TheVariants.{Local}
-use Rattle.resolved.specs.declared.expression.Operator.TheVariants.{Compute, Divide, Compare}
-use Rattle.resolved.specs.declared.expression.Computation.TheVariants.{Add}
-use Rattle.resolved.specs.declared.expression.Division.TheVariants.{Quotient}
-use Rattle.resolved.specs.declared.expression.Relation.TheVariants.{LessThan, Equal}
-use Rattle.resolved.specs.declared.expression.Connective.TheVariants.{And}
+use Rattle.resolved.specs.declared.expression.Operator.TheVariants.{Compute, Compare}
+use Rattle.common.specs.declared.operator.Arithmetic.TheVariants.{Add, Divide}
+use Rattle.common.specs.declared.operator.Comparison.TheVariants.{Ordered, Matched}
+use Rattle.common.specs.declared.operator.Order.TheVariants.{LessThan}
+use Rattle.common.specs.declared.operator.Sameness.TheVariants.{Same}
+use Rattle.common.specs.declared.operator.Connective.TheVariants.{And}
 use Rattle.resolved.specs.declared.statement.Exit.TheVariants.{Break, Continue, Throw}
 use Rattle.resolved.specs.Tree.{Logical, Binary, Short, Statement, Clear, Store, Receive, Call, Leave, ReturnWith, Nested}
 use Rattle.resolved.specs.Program.{Program}
@@ -144,7 +145,7 @@ continue_refused (policy ∷ rest) = refl
 
 -- `while (i < 3) { send pub, i; i = i + 1; }`
 public_loop_fits : fits (secret_program (int_slot [] ∷ []) (
-    while_loop (Binary (Compare LessThan) (var 1) (int 3)) (send_public (var 1) ∷ set_to 1 (Binary (Compute Add) (var 1) (int 1)) ∷ []) ∷ [])) (loop_is [])
+    while_loop (Binary (Compare (Ordered LessThan)) (var 1) (int 3)) (send_public (var 1) ∷ set_to 1 (Binary (Compute Add) (var 1) (int 1)) ∷ []) ∷ [])) (loop_is [])
     ≡ true
 unfolding int_wrap
 public_loop_fits = refl
@@ -173,25 +174,25 @@ throw_refused labelling = refl
 -- ---- try
 -- `try { int{Alice:} y = 1 / x; } catch (Arith) { } send pub, 1;`, and with `send pub, 1;` in the handler
 try_fits : fits (secret_program (int_slot alice ∷ []) (
-    try_to (set_to 1 (Binary (Divide Quotient) (int 1) (var 0)) ∷ []) (on arith []) ∷ send_public (int 1) ∷ [])) all_written ≡ true
+    try_to (set_to 1 (Binary (Compute Divide) (int 1) (var 0)) ∷ []) (on arith []) ∷ send_public (int 1) ∷ [])) all_written ≡ true
 unfolding int_wrap
 try_fits = refl
 
 try_refused : (labelling : Labelling) → fits (secret_program (int_slot alice ∷ []) (
-    try_to (set_to 1 (Binary (Divide Quotient) (int 1) (var 0)) ∷ []) (on arith (send_public (int 1) ∷ [])) ∷ [])) labelling ≡ false
+    try_to (set_to 1 (Binary (Compute Divide) (int 1) (var 0)) ∷ []) (on arith (send_public (int 1) ∷ [])) ∷ [])) labelling ≡ false
 unfolding int_wrap
 try_refused labelling = refl
 
 -- a divisor that cannot be 0 tells nothing: `try { int{Alice:} y = x / 2; send pub, 1; throw Oops; } catch (Oops) { send pub, 2; }`
 safe_division_fits : fits (secret_program (int_slot alice ∷ []) (
-    try_to (set_to 1 (Binary (Divide Quotient) (var 0) (int 2)) ∷ send_public (int 1) ∷ Leave 0 (Throw oops) ∷ []) (on oops (send_public (int 2) ∷ []))
+    try_to (set_to 1 (Binary (Compute Divide) (var 0) (int 2)) ∷ send_public (int 1) ∷ Leave 0 (Throw oops) ∷ []) (on oops (send_public (int 2) ∷ []))
     ∷ [])) all_written ≡ true
 unfolding int_wrap
 safe_division_fits = refl
 
 -- the right operand of `&&` is evaluated or not by the left one: `try { y = x > 0 && 1 / z == 1; send pub, 1; } catch (Arith) { }`
 short_refused : (labelling : Labelling) → fits (secret_program (int_slot alice ∷ int_slot [] ∷ []) (
-    try_to (set_to 1 (Short And (positive (var 0)) (Binary (Compare Equal) (Binary (Divide Quotient) (int 1) (var 2)) (int 1))) ∷ send_public (int 1) ∷ [])
+    try_to (set_to 1 (Short And (positive (var 0)) (Binary (Compare (Matched Same)) (Binary (Compute Divide) (int 1) (var 2)) (int 1))) ∷ send_public (int 1) ∷ [])
     (on arith []) ∷ [])) labelling ≡ false
 unfolding int_wrap
 short_refused labelling = refl
@@ -206,7 +207,7 @@ block_fits = refl
 
 -- `void main() throws (Arith{Alice:}) { .. int{Alice:} y = 1 / x; send pub, 1; }`: what follows is reached or not by x
 block_refused : (labelling : Labelling) → fits (program (record (procedure (int_slot alice ∷ int_slot alice ∷ [])
-    (receive_secret ++ (set_to 1 (Binary (Divide Quotient) (int 1) (var 0)) ∷ send_public (int 1) ∷ []))) { throws = thrown arith alice } ∷ [])) labelling
+    (receive_secret ++ (set_to 1 (Binary (Compute Divide) (int 1) (var 0)) ∷ send_public (int 1) ∷ []))) { throws = thrown arith alice } ∷ [])) labelling
     ≡ false
 unfolding int_wrap
 block_refused labelling = refl
@@ -259,7 +260,7 @@ call_body_refused labelling = refl
 calling_k : (parameter end_label thrown_label : Label) → List Statement → Program
 calling_k parameter end_label thrown_label statements = program (
     procedure (int_slot alice ∷ []) (receive_secret ++ statements)
-    ∷ record (procedure (int_slot parameter ∷ int_slot alice ∷ []) (set_to 1 (Binary (Divide Quotient) (int 1) (var 0)) ∷ []))
+    ∷ record (procedure (int_slot parameter ∷ int_slot alice ∷ []) (set_to 1 (Binary (Compute Divide) (int 1) (var 0)) ∷ []))
     { parameters = 1; throws = thrown arith thrown_label; end_label = end_label } ∷ [])
 
 argument_fits : fits (calling_k alice alice alice (

@@ -4,12 +4,13 @@ use Rattle.std.specs.Prelude.{ℤ, pos, negsuc, Some, None}
 use Rattle.std.specs.Int.{int_wrap}
 use Rattle.common.specs.declared.base_type.BaseType.TheVariants.{Int}
 use Rattle.resolved.specs.declared.expression.Variable.TheVariants.{Global, Local}
-use Rattle.resolved.specs.declared.expression.Operator.TheVariants.{Compute, Divide, Compare}
-use Rattle.resolved.specs.declared.expression.Computation.TheVariants.{Add, Subtract, Multiply}
-use Rattle.resolved.specs.declared.expression.Division.TheVariants.{Quotient, Remainder}
-use Rattle.resolved.specs.declared.expression.Relation.TheVariants.{LessThan, Equal}
-use Rattle.resolved.specs.declared.expression.Connective.TheVariants.{And, Or}
-use Rattle.resolved.specs.declared.expression.Prefix.TheVariants.{Negate}
+use Rattle.resolved.specs.declared.expression.Operator.TheVariants.{Compute, Compare}
+use Rattle.common.specs.declared.operator.Arithmetic.TheVariants.{Add, Subtract, Multiply, Divide, Remainder}
+use Rattle.common.specs.declared.operator.Comparison.TheVariants.{Ordered, Matched}
+use Rattle.common.specs.declared.operator.Order.TheVariants.{LessThan}
+use Rattle.common.specs.declared.operator.Sameness.TheVariants.{Same}
+use Rattle.common.specs.declared.operator.Connective.TheVariants.{And, Or}
+use Rattle.common.specs.declared.operator.Prefix.TheVariants.{Negate}
 use Rattle.resolved.specs.declared.expression.Value.TheVariants.{Number}
 use Rattle.resolved.specs.declared.statement.Exit.TheVariants.{Break, Continue, Throw}
 use Rattle.resolved.specs.Tree.{Expression, Logical, Read, Element, Unary, Binary, Short, Assign, Clear, Store, Receive, Call, Leave, ReturnWith, Catch}
@@ -28,10 +29,10 @@ one_number = refl
 
 -- the least number by -1, and the quotients and remainders of numbers with signs
 division : run 1 0 (main_program [] (
-    send_public (Binary (Divide Quotient) (Binary (Compute Subtract) (minus 2147483647) (int 1)) (minus 1))
-    ∷ send_public (Binary (Divide Remainder) (Binary (Compute Subtract) (minus 2147483647) (int 1)) (minus 1))
-    ∷ send_public (Binary (Divide Quotient) (minus 7) (int 2)) ∷ send_public (Binary (Divide Remainder) (minus 7) (int 2))
-    ∷ send_public (Binary (Divide Remainder) (int 7) (minus 2)) ∷ [])) silence
+    send_public (Binary (Compute Divide) (Binary (Compute Subtract) (minus 2147483647) (int 1)) (minus 1))
+    ∷ send_public (Binary (Compute Remainder) (Binary (Compute Subtract) (minus 2147483647) (int 1)) (minus 1))
+    ∷ send_public (Binary (Compute Divide) (minus 7) (int 2)) ∷ send_public (Binary (Compute Remainder) (minus 7) (int 2))
+    ∷ send_public (Binary (Compute Remainder) (int 7) (minus 2)) ∷ [])) silence
     ≡ (negsuc 2147483647 ∷ pos 0 ∷ negsuc 2 ∷ negsuc 0 ∷ pos 1 ∷ [], finished)
 unfolding int_wrap
 division = refl
@@ -48,7 +49,7 @@ wrapping = refl
 -- the left operand raises first
 left_operand_first : run 1 0 (main_program (int_slot [] ∷ array_slot 2 [] ∷ int_slot [] ∷ []) (
     set_to 0 (int 0) ∷ Clear 0 1
-    ∷ try_to (set_to 2 (Binary (Compute Add) (Binary (Divide Quotient) (int 1) (var 0)) (Element (Local 1) 2 (Binary (Compute Subtract) (var 0) (int 1)))) ∷ [])
+    ∷ try_to (set_to 2 (Binary (Compute Add) (Binary (Compute Divide) (int 1) (var 0)) (Element (Local 1) 2 (Binary (Compute Subtract) (var 0) (int 1)))) ∷ [])
     (Catch 0 arith (block (send_public (int 1) ∷ [])) (on bounds (send_public (int 2) ∷ []))) ∷ [])) silence
     ≡ (pos 1 ∷ [], finished)
 unfolding int_wrap
@@ -57,7 +58,7 @@ left_operand_first = refl
 -- the same with `a[z - 1] = 1 / z;` as the block: the value is evaluated before the range is tested
 value_before_range : run 1 0 (main_program (int_slot [] ∷ array_slot 2 [] ∷ []) (
     set_to 0 (int 0) ∷ Clear 0 1
-    ∷ try_to (Store 0 (Local 1) 2 (Binary (Compute Subtract) (var 0) (int 1)) (Binary (Divide Quotient) (int 1) (var 0)) ∷ [])
+    ∷ try_to (Store 0 (Local 1) 2 (Binary (Compute Subtract) (var 0) (int 1)) (Binary (Compute Divide) (int 1) (var 0)) ∷ [])
     (Catch 0 arith (block (send_public (int 1) ∷ [])) (on bounds (send_public (int 2) ∷ []))) ∷ [])) silence
     ≡ (pos 1 ∷ [], finished)
 unfolding int_wrap
@@ -65,7 +66,7 @@ value_before_range = refl
 
 -- the first argument raises first, and before the call
 first_argument_first : run 1 0 (main_program (int_slot [] ∷ array_slot 1 [] ∷ []) (
-    try_to (Call 0 9 (Element (Local 1) 1 (int 1) ∷ Binary (Divide Quotient) (int 1) (var 0) ∷ []) None ∷ [])
+    try_to (Call 0 9 (Element (Local 1) 1 (int 1) ∷ Binary (Compute Divide) (int 1) (var 0) ∷ []) None ∷ [])
     (Catch 0 arith (block (send_public (int 1) ∷ [])) (on bounds (send_public (int 2) ∷ []))) ∷ [])) silence
     ≡ (pos 2 ∷ [], finished)
 unfolding int_wrap
@@ -73,9 +74,9 @@ first_argument_first = refl
 
 -- `if (false && 1 / 0 == 1) { send pub, 1; } if (true || 1 / 0 == 1) { send pub, 2; } if (true && 1 / 0 == 1) { }`
 short_circuit : run 1 0 (main_program [] (
-    if_then (Short And (Logical false) (Binary (Compare Equal) (Binary (Divide Quotient) (int 1) (int 0)) (int 1))) (send_public (int 1) ∷ [])
-    ∷ if_then (Short Or (Logical true) (Binary (Compare Equal) (Binary (Divide Quotient) (int 1) (int 0)) (int 1))) (send_public (int 2) ∷ [])
-    ∷ if_then (Short And (Logical true) (Binary (Compare Equal) (Binary (Divide Quotient) (int 1) (int 0)) (int 1))) [] ∷ [])) silence
+    if_then (Short And (Logical false) (Binary (Compare (Matched Same)) (Binary (Compute Divide) (int 1) (int 0)) (int 1))) (send_public (int 1) ∷ [])
+    ∷ if_then (Short Or (Logical true) (Binary (Compare (Matched Same)) (Binary (Compute Divide) (int 1) (int 0)) (int 1))) (send_public (int 2) ∷ [])
+    ∷ if_then (Short And (Logical true) (Binary (Compare (Matched Same)) (Binary (Compute Divide) (int 1) (int 0)) (int 1))) [] ∷ [])) silence
     ≡ (pos 2 ∷ [], threw arith)
 unfolding int_wrap
 short_circuit = refl
@@ -84,7 +85,7 @@ short_circuit = refl
 -- its end raises
 cleared_each_round : run 1 3 (main_program (array_slot 2 [] ∷ int_slot [] ∷ []) (
     set_to 1 (int 0)
-    ∷ while_loop (Binary (Compare LessThan) (var 1) (int 3)) (
+    ∷ while_loop (Binary (Compare (Ordered LessThan)) (var 1) (int 3)) (
     Clear 0 0 ∷ Store 0 (Local 0) 2 (var 1) (Binary (Compute Add) (Element (Local 0) 2 (int 0)) (int 5))
     ∷ send_public (Element (Local 0) 2 (var 1)) ∷ set_to 1 (Binary (Compute Add) (var 1) (int 1)) ∷ []) ∷ [])) silence
     ≡ (pos 5 ∷ pos 5 ∷ [], threw bounds)
@@ -93,7 +94,7 @@ cleared_each_round = refl
 
 -- without the declaration in the loop the elements would stay
 elements_stay : run 1 2 (main_program (array_slot 1 [] ∷ int_slot [] ∷ []) (
-    while_loop (Binary (Compare LessThan) (var 1) (int 2)) (
+    while_loop (Binary (Compare (Ordered LessThan)) (var 1) (int 2)) (
     Store 0 (Local 0) 1 (int 0) (Binary (Compute Add) (Element (Local 0) 1 (int 0)) (int 5))
     ∷ send_public (Element (Local 0) 1 (int 0)) ∷ set_to 1 (Binary (Compute Add) (var 1) (int 1)) ∷ []) ∷ [])) silence
     ≡ (pos 5 ∷ pos 10 ∷ [], finished)
@@ -121,9 +122,9 @@ out_of_fuel = refl
 
 -- rounds are counted anew each time a loop is reached: two rounds of the inner loop suffice in both rounds of the outer one
 fuel_counted_anew : run 1 2 (main_program (int_slot [] ∷ int_slot [] ∷ []) (
-    while_loop (Binary (Compare LessThan) (var 0) (int 2)) (
+    while_loop (Binary (Compare (Ordered LessThan)) (var 0) (int 2)) (
     set_to 1 (int 0)
-    ∷ while_loop (Binary (Compare LessThan) (var 1) (int 2)) (send_public (var 1) ∷ set_to 1 (Binary (Compute Add) (var 1) (int 1)) ∷ [])
+    ∷ while_loop (Binary (Compare (Ordered LessThan)) (var 1) (int 2)) (send_public (var 1) ∷ set_to 1 (Binary (Compute Add) (var 1) (int 1)) ∷ [])
     ∷ set_to 0 (Binary (Compute Add) (var 0) (int 1)) ∷ []) ∷ [])) silence
     ≡ (pos 0 ∷ pos 1 ∷ pos 0 ∷ pos 1 ∷ [], finished)
 unfolding int_wrap
@@ -139,8 +140,8 @@ stop_is_not_caught = refl
 -- `while (true) { if (i == 1) { i = i + 1; continue; } if (i == 3) { break; } send pub, i; i = i + 1; } send pub, 9;`
 break_and_continue : run 1 5 (main_program (int_slot [] ∷ []) (
     while_loop (Logical true) (
-    if_then (Binary (Compare Equal) (var 0) (int 1)) (set_to 0 (Binary (Compute Add) (var 0) (int 1)) ∷ Leave 0 Continue ∷ [])
-    ∷ if_then (Binary (Compare Equal) (var 0) (int 3)) (Leave 0 Break ∷ [])
+    if_then (Binary (Compare (Matched Same)) (var 0) (int 1)) (set_to 0 (Binary (Compute Add) (var 0) (int 1)) ∷ Leave 0 Continue ∷ [])
+    ∷ if_then (Binary (Compare (Matched Same)) (var 0) (int 3)) (Leave 0 Break ∷ [])
     ∷ send_public (var 0) ∷ set_to 0 (Binary (Compute Add) (var 0) (int 1)) ∷ [])
     ∷ send_public (int 9) ∷ [])) silence ≡ (pos 0 ∷ pos 2 ∷ pos 9 ∷ [], finished)
 unfolding int_wrap

@@ -9,23 +9,18 @@ use Rattle.common.specs.declared.base_type.BaseType.TheVariants.{Int, Boolean}
 use Rattle.resolved.specs.declared.expression.Value.{Value}
 use Rattle.resolved.specs.declared.expression.Value.TheVariants.{Number}
 use Rattle.resolved.specs.declared.expression.Variable.{Variable}
-use Rattle.resolved.specs.declared.expression.Prefix.{Prefix}
-use Rattle.resolved.specs.declared.expression.Prefix.TheVariants.{Negate, Not}
+use Rattle.common.specs.declared.operator.Prefix.{Prefix}
+use Rattle.common.specs.declared.operator.Prefix.TheVariants.{Negate, Not}
 use Rattle.resolved.specs.declared.expression.Operator.{Operator}
-use Rattle.resolved.specs.declared.expression.Operator.TheVariants.{Compute, Divide, Bits, Compare, Match}
-use Rattle.resolved.specs.declared.expression.Computation.TheVariants.{Add, Subtract, Multiply}
-use Rattle.resolved.specs.declared.expression.Division.TheVariants.{Quotient, Remainder}
-use Rattle.resolved.specs.declared.expression.BitOperator.TheVariants.{BitAnd, BitOr, BitXor, ShiftLeft, ShiftRight, ShiftRightUnsigned}
-use Rattle.resolved.specs.declared.expression.Relation.TheVariants.{LessThan, AtMost, GreaterThan, AtLeast, Equal, Unequal}
-use Rattle.resolved.specs.declared.expression.Sameness.TheVariants.{Same, Different}
-use Rattle.resolved.specs.declared.expression.Connective.{Connective}
+use Rattle.resolved.specs.declared.expression.Operator.TheVariants.{Compute, Compare, Match}
+use Rattle.common.specs.declared.operator.Connective.{Connective}
 use Rattle.resolved.specs.Tree.{Expression, Integer, Logical, Read, Element, Unary, Binary, Short}
 use Rattle.resolved.specs.Program.{Program, ProcedureEntry, SlotEntry}
-use Rattle.resolved.specs.Value.{Evaluated, Yields, Raises, then_with, base_of, operator_value, prefix_value, checked_index, number_in, in_range, decides}
+use Rattle.resolved.specs.Value.{Evaluated, Yields, Raises, then_with, base_of, operator_value, or_arith, prefix_value, checked_index, number_in, in_range, decides}
 use Rattle.resolved.specs.SourceState.{SourceState, cells, cell_at, value_of, values_of}
 use Rattle.resolved.specs.WellFormed.{VariableType, variable_type, scalar_by, array_by, has_length, cell_count, same_base, prefix_base, result_base, has_base, arguments_match}
 use Rattle.resolved.specs.Kinds.{CellsFit, StateFits, GivesBase, ArgumentsFit}
-use Rattle.common.specs.Integers.{is_zero}
+use Rattle.common.specs.Operators.{computed}
 use Rattle.common.specs.declared.exceptions.TheConstants.{BOUNDS}
 
 -- ---- tests
@@ -45,30 +40,14 @@ prefix_keeps : (prefix : Prefix) (v : Value) → base_of (prefix_value prefix v)
 prefix_keeps Negate v = refl
 prefix_keeps Not v = refl
 
-unless_zero_gives : (test : Bool) (z : ℤ) → GivesBase Int (if test then Raises 0 else Yields (Number z))
-unless_zero_gives true z = tt
-unless_zero_gives false z = refl
+or_arith_gives : (found : Option ℤ) → GivesBase Int (or_arith found)
+or_arith_gives None = tt
+or_arith_gives (Some z) = refl
 
 operator_gives : (operator : Operator) (v w : Value) → GivesBase (result_base operator) (operator_value operator v w)
-operator_gives (Compute Add) v w = refl
-operator_gives (Compute Subtract) v w = refl
-operator_gives (Compute Multiply) v w = refl
-operator_gives (Divide Quotient) v w = unless_zero_gives (is_zero (number_in w)) _
-operator_gives (Divide Remainder) v w = unless_zero_gives (is_zero (number_in w)) _
-operator_gives (Bits BitAnd) v w = refl
-operator_gives (Bits BitOr) v w = refl
-operator_gives (Bits BitXor) v w = refl
-operator_gives (Bits ShiftLeft) v w = refl
-operator_gives (Bits ShiftRight) v w = refl
-operator_gives (Bits ShiftRightUnsigned) v w = refl
-operator_gives (Compare LessThan) v w = refl
-operator_gives (Compare AtMost) v w = refl
-operator_gives (Compare GreaterThan) v w = refl
-operator_gives (Compare AtLeast) v w = refl
-operator_gives (Compare Equal) v w = refl
-operator_gives (Compare Unequal) v w = refl
-operator_gives (Match Same) v w = refl
-operator_gives (Match Different) v w = refl
+operator_gives (Compute operator) v w = or_arith_gives (computed operator (number_in v) (number_in w))
+operator_gives (Compare comparison) v w = refl
+operator_gives (Match sameness) v w = refl
 
 -- ---- evaluation
 gives_at : (a b : BaseType) (result : Evaluated Value) → a ≡ b → GivesBase a result → GivesBase b result

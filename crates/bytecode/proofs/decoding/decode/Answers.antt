@@ -24,7 +24,7 @@ returns-in-Err-Refused-clause-complete c = λ m spells.
     let stopped : read_all module_file c.args.bytes.now ≡ Err c.in-Err-Refused.stop = rw c.in-Err-Refused.field-0-is at c.in-Err-Refused.ensures in
     absurd (cc (stopped, module_again c.args.bytes.now m spells))
 
-pub overflow_sub-offset : goal.overflow_sub-offset
-overflow_sub-offset c =
+pub overflow_sub-at : goal.overflow_sub-at
+overflow_sub-at c =
     let stopped : read_all module_file c.args.bytes.now ≡ Err c.in-Err-Refused.stop = rw c.in-Err-Refused.field-0-is at c.in-Err-Refused.ensures in
     omega (arith, stop_inside module_file c.args.bytes.now c.in-Err-Refused.stop stopped)

@@ -9,6 +9,6 @@ returns-in_err-item g c =
 
 pub loop-preserved : goal.loop-preserved
 loop-preserved g c = record {
-  goes_on = rw c.in_ok-push.ensures.items (each_goes_on (g.E.Element.reads c.args.element.now) c.args.count c.loop.counter c.loop.items.items c.loop.rest.now c.in_ok-item.item c.in_ok-item.after.now _ c.loop-test.true (rw c.deref.ensures.value at c.in_ok-item.ensures.gives) c.loop.invariant.goes_on);
-  holds = rw (c.in_ok-push.ensures.items, ← c.deref.ensures.value) c.in_ok-item.ensures.holds;
+  goes_on = rw (c.push_reserved.ensures.items, c.in_ok-make_room.ensures.same) (each_goes_on (g.E.Element.reads c.args.element.now) c.args.count c.loop.counter c.loop.items.items c.loop.rest.now c.in_ok-item.item c.in_ok-item.after.now _ c.loop-test.true (rw c.deref.ensures.value at c.in_ok-item.ensures.gives) c.loop.invariant.goes_on);
+  holds = rw (c.push_reserved.ensures.items, c.in_ok-make_room.ensures.same, ← c.deref.ensures.value) c.in_ok-item.ensures.holds;
 }

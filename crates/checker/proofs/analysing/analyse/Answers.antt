@@ -4,7 +4,7 @@ use Rattle.std.proofs.lemmas.Str.{is_utf8-from_IsUtf8}
 use Rattle.std.specs.Prelude.{Ok}
 use Rattle.acceptance.proofs.ProperNames.{tree_of_text}
 use Rattle.acceptance.specs.Accepted.{IsResolvedFrom}
-use Rattle.acceptance.specs.Refused.{NoText, TooLong}
+use Rattle.acceptance.specs.Refused.{NoText, TooLong, WrongName}
 use Rattle.acceptance.specs.declared.kind.RefusalKind.TheVariants as kinds
 use Rattle.common.proofs.Casting.{cast-answer, mapped-ok}
 use Rattle.common.specs.Answers.{IfRefused}
@@ -15,7 +15,7 @@ use Rattle.std.proofs.Common.{◌≡◌}
 use Rattle.syntax.specs.Tree.{program_tree}
 use Rattle.types.specs.Finding.{IsRefusalOf, give}
 use Rattle.types.specs.Resolution.{resolution}
-use Rattle.checker.proofs.Faults.{named, ended}
+use Rattle.checker.proofs.Faults.{ended}
 use Rattle.checker.specs.Found.{IsFoundRefusal}
 use Rattle.checker.proofs.analysing.analyse.Goals as goal
 
@@ -45,7 +45,7 @@ returns-in_err-core-clause-first_fault c =
     let source = c.args.source.now in
     let tree = program_tree c.in_ok-tree.tree in
     rw (p.1, p.2) (IfErr-at_err (IfRefused (IsFoundRefusal h source)) c.in_err-core.was
-    (cast-answer (IsRefusalOf (resolution h tree)) (IsFoundRefusal h source) (λ r s is found. rw is (named h source tree r c.in_ok-tree.ensures.spelled found))
+    (cast-answer (IsRefusalOf (resolution h tree)) (IsFoundRefusal h source) (λ r s is found. rw (is.0, is.1) (WrongName tree c.in_ok-tree.ensures.spelled r found))
     c.resolve.result c.map_err.result c.map_err.ensures.cases c.resolve.ensures.first_fault))
 
 pub returns-in_err-ends-clause-first_fault : goal.returns-in_err-ends-clause-first_fault
@@ -62,5 +62,5 @@ returns-in_err-ends-clause-first_fault c =
           c.in_ok-core.ensures.cases (λ fault no. no) c.resolve.ensures.accepted;
     } in
     rw (p.1, p.2) (IfErr-at_err (IfRefused (IsFoundRefusal h source)) c.in_err-ends.was
-    (cast-answer (IsFirstEndFault (exit_faults program)) (IsFoundRefusal h source) (λ r s is first. rw is (ended h source program r from first))
+    (cast-answer (IsFirstEndFault (exit_faults program)) (IsFoundRefusal h source) (λ r s is first. rw (is.0, is.1) (ended h source program r from first))
     c.ends.result c.map_err-2.result c.map_err-2.ensures.cases c.ends.ensures.first_fault))

@@ -6,7 +6,7 @@ use Rattle.constraints.specs.Spreading.{AreRowsOf, Declares, all_calls, made_lis
 use Rattle.constraints.proofs.Bodies.{procedures-numbered}
 use Rattle.gathering.specs.Names.{real_unknowns}
 use Rattle.resolved.specs.CoreOf.{program_of}
-use Rattle.constraints.specs.Following.{AreWays, IsOver}
+use Rattle.constraints.specs.Following.{AreCallPaths, IsOver}
 use Rattle.constraints.proofs.CallRows.{calls-more, calls-upto}
 use Rattle.constraints.proofs.Paths.{over-same, over-then}
 use Rattle.constraints.proofs.LaidRows.{shared-all}
@@ -76,8 +76,8 @@ returns c =
     let so_far = c.loop-i.invariant.spread in
     let following = c.in_ok-following.following in
     let base = c.args.made.now.constraints.items in
-    let ways : AreWays (real_unknowns (program_of core)) base following =
-    subst (λ n. AreWays n base following) c.args.table.now.count (subst (λ list. AreWays c.args.table.now.unknowns list following) c.deref-3.ensures.value c.in_ok-following.ensures) in
+    let ways : AreCallPaths (real_unknowns (program_of core)) base following =
+    subst (λ n. AreCallPaths n base following) c.args.table.now.count (subst (λ list. AreCallPaths c.args.table.now.unknowns list following) c.deref-3.ensures.value c.in_ok-following.ensures) in
     let whole : AreSpreadSoFar (IsOver following) core table journal journal.calls.items (rows_of c.in_ok-kept.kept.items) (rows_of c.loop-i.kept.items) c.args.made.now c.loop-i.made = record {
       spread = so_far.spread;
       are_spread = calls-all core table journal c.deref-row-items.result.now c.len.result c.loop-i.i journal.calls.items c.args.made.now.number c.loop-i.made.number so_far.spread

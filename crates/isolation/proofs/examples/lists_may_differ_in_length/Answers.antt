@@ -4,7 +4,8 @@ use Rattle.common.specs.declared.sent.Pair.{Pair}
 use Rattle.labels.specs.Sent.{pairs_for}
 use Rattle.resolved.specs.declared.expression.Variable.TheVariants.{Local}
 use Rattle.resolved.specs.declared.expression.Operator.TheVariants.{Compare}
-use Rattle.resolved.specs.declared.expression.Relation.TheVariants.{GreaterThan}
+use Rattle.common.specs.declared.operator.Comparison.TheVariants.{Ordered}
+use Rattle.common.specs.declared.operator.Order.TheVariants.{GreaterThan}
 use Rattle.resolved.specs.Tree.{Integer, Read, Binary, Assign, Receive, Send, Try, Empty, Then, NoMore, Catch}
 use Rattle.resolved.specs.Program.{procedure_at}
 use Rattle.common.specs.declared.exceptions.TheConstants.{END}
@@ -46,4 +47,4 @@ pub returns-clause-nothing : goal.returns-clause-nothing
 unfolding frame_limit int_wrap reached seen_from
 returns-clause-nothing c k =
     ap (seen_from k)
-    (waits-for_ever k (λ t. value_of t (Binary (Compare GreaterThan) (Read (Local 0)) (Integer 0))) (block_meaning (calls_with waiting k 511) k Empty) (reached k) refl refl)
+    (waits-for_ever k (λ t. value_of t (Binary (Compare (Ordered GreaterThan)) (Read (Local 0)) (Integer 0))) (block_meaning (calls_with waiting k 511) k Empty) (reached k) refl refl)

@@ -1,6 +1,7 @@
 use Rattle.std.proofs.Common.{◌∷◌, [], Option, refl, sym, ap, subst, ◌∙◌}
 use Rattle.std.specs.Str.{chars}
-use Rattle.lexer.specs.Cut.{HasNoLexeme}
+use Rattle.lexer.specs.Cut.{IsRefusedFor}
+use Rattle.lexer.specs.declared.fault.LexRefusalKind.TheVariants.{NoToken}
 use Rattle.lexer.specs.Scan.{IsNoTriple, Reads}
 use Rattle.std.specs.Option.{MatchOption}
 use Rattle.lexer.specs.declared.pieces.Piece.{Piece}
@@ -38,8 +39,8 @@ returns-in-Some-cut_double_sign c =
 pub returns-in_err-kind : goal.returns-in_err-kind
 returns-in_err-kind c =
     let none = none_next c.args.first (chars c.args.after.now) (class-sign c.args.first c.requires.begins) (sym c.kind_of_sign.ensures ∙ c.in_err-kind.was) c.in_default-cut_triple_sign.ensures c.in_default-cut_double_sign.ensures in
-    let P : Option Piece → Type 0 = λ o. MatchOption o (HasNoLexeme (chars c.args.text.now)) (λ piece. Reads (chars c.args.text.now) piece.kind (chars piece.rest.now)) in
-    subst P (sym c.from_residual.ensures) (subst HasNoLexeme (sym c.requires.split) none)
+    let P : Option Piece → Type 0 = λ o. MatchOption o (IsRefusedFor (chars c.args.text.now) NoToken) (λ piece. Reads (chars c.args.text.now) piece.kind (chars piece.rest.now)) in
+    subst P (sym c.from_residual.ensures) (subst (λ cs. IsRefusedFor cs NoToken) (sym c.requires.split) none)
 
 pub returns : goal.returns
 returns c = (

@@ -1,14 +1,15 @@
 use Rattle.std.proofs.Common.{refl, sym, ap, ◌∙◌, unwrap_or}
 use Rattle.std.specs.Str.{chars}
 use Rattle.lexer.specs.Lexeme.{Word}
-use Rattle.lexer.specs.Words.{keywords, may_continue}
+use Rattle.lexer.specs.Words.{keywords}
+use Rattle.unicode_ident.specs.Ident.{is_xid_continue}
 use Rattle.lexer.specs.declared.token.Kind.TheVariants.{Name}
 use Rattle.lexer.proofs.Tables.{same_lookup}
 use Rattle.lexer.proofs.Reading.{moved, run_tail, word_read}
 use Rattle.lexer.proofs.pieces.cut_word.Goals as goal
 
 pub take_front-requires : goal.take_front-requires
-take_front-requires c = run_tail may_continue _ c.args.first (chars c.args.after.now) _ c.requires.split c.skip_run-rest.ensures
+take_front-requires c = run_tail is_xid_continue _ c.args.first (chars c.args.after.now) _ c.requires.split c.skip_run-rest.ensures
 
 pub returns : goal.returns
 returns c =

@@ -2,7 +2,7 @@ use Rattle.std.proofs.Common.{rules, arith, ◌≡◌, ◌∙◌, ap, sym, lengt
 use Rattle.modules.specs.declared.instruction.Instruction.TheVariants.{Push}
 use Rattle.resolved.specs.TreeOf.{expression_of}
 use Rattle.lowering.specs.Expressions.{value_code}
-use Rattle.resolved.specs.declared.expression.Connective.TheVariants.{And, Or}
+use Rattle.common.specs.declared.operator.Connective.TheVariants.{And, Or}
 use Rattle.std.proofs.lemmas.Result.{on_ok_weaker}
 use Rattle.resolved.specs.Tree.{Binary, Short}
 use Rattle.lowering.proofs.Appending.{binary-pushed, short-pushed}

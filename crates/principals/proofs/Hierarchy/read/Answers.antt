@@ -8,7 +8,7 @@ use Rattle.principals.proofs.Hierarchy.read.Goals as goal
 
 pub returns-clause-complete : goal.returns-clause-complete
 returns-clause-complete c hierarchy of =
-    read_complete c.args.text.now hierarchy of c.read_text.result c.read_text.ensures.accepted c.read_text.ensures.kept c.read_text.ensures.first_fault
+    read_complete c.args.text.now hierarchy of c.read_text.result c.read_text.ensures.accepted c.read_text.ensures.first_fault
 
 pub returns-clause-refuses : goal.returns-clause-refuses
 returns-clause-refuses c refusal refused =

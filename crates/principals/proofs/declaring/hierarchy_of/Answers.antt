@@ -3,16 +3,16 @@ use Rattle.std.proofs.Common.{◌≡◌, ◌≤◌, ◌+◌, ◌++◌, ◌∷◌
 use Rattle.std.proofs.lemmas.List.{take_all}
 use Rattle.std.proofs.lemmas.Result.{err_from_is_err_and}
 use Rattle.lexer.specs.Terminal.{terminal_of}
-use Rattle.principals.specs.ActsFor.{AllBelow, AllDifferent}
+use Rattle.principals.specs.ActsFor.{PrincipalHierarchy, AllBelow, AllDifferent}
 use Rattle.common.specs.Answers.{IfRefused}
 use Rattle.common.specs.declared.fault.OrNoMemory.TheVariants.{Refused}
 use Rattle.common.proofs.Casting.{map-answer, mapped-ok, refused-weaker}
-use Rattle.principals.specs.HierarchyText.{Declares, Relates, declared}
+use Rattle.principals.specs.HierarchyText.{Declares, Relates}
 use Rattle.principals.specs.Named.{IsKeptName}
-use Rattle.principals.specs.Reading.{entry_of, entries_of, IsEntryRefusal, IsFirstRefusal}
+use Rattle.principals.specs.Reading.{declared, entry_of, entries_of, IsEntryRefusal, IsFirstRefusal}
 use Rattle.principals.specs.Table.{names_of}
 use Rattle.principals.specs.declared.reading.HierarchyStatement.{HierarchyStatement}
-use Rattle.principals.proofs.Building.{built_name, built_pair, built_described, built_refused, built_same, entries_around, entries_more}
+use Rattle.principals.proofs.Building.{built_name, built_names, built_pair, built_kept, built_refused, built_same, entries_around, entries_more}
 use Rattle.principals.proofs.declaring.hierarchy_of.Goals as goal
 use Rattle.principals.proofs.declaring.hierarchy_of.Goals.{in-Declares+in_ok-declare-in-Declares, in-Relates+in_ok-pair-in-Relates+in_ok-push-in-Relates}
 
@@ -26,8 +26,9 @@ returns-in_err-declare-in-Declares-clause-first_fault c =
     entries_around statements i _ c.loop-statement-test.true
     ∙ ap (λ x. entries_of (take i statements) ++ entry_of x ∷ entries_of (drop (i + 1) statements)) c.in-Declares.is in
     rw (p.1, p.2) (subst (λ x. IfRefused (IsFirstRefusal x) fault) (sym whole)
-    (refused-weaker (IsEntryRefusal (names_of c.loop-statement.names) (Declares (terminal_of c.in-Declares.name))) (IsFirstRefusal _)
-    (λ r h. built_refused (entries_of (take i statements)) (entries_of (drop (i + 1) statements)) (names_of c.loop-statement.names) c.loop-statement.pairs.items
+    (refused-weaker (IsEntryRefusal (names_of c.loop-statement.names) (Declares (terminal_of c.in-Declares.name)))
+    (IsFirstRefusal (entries_of (take i statements) ++ Declares (terminal_of c.in-Declares.name) ∷ entries_of (drop (i + 1) statements)))
+    (λ r h. built_refused (entries_of (take i statements)) (entries_of (drop (i + 1) statements)) (record { names = names_of c.loop-statement.names; pairs = c.loop-statement.pairs.items })
     (Declares (terminal_of c.in-Declares.name)) r c.loop-statement.invariant h) fault c.in_err-declare-in-Declares.ensures.rejected))
 
 pub returns-in_err-pair-in-Relates-clause-first_fault : goal.returns-in_err-pair-in-Relates-clause-first_fault
@@ -42,7 +43,7 @@ returns-in_err-pair-in-Relates-clause-first_fault c =
     ∙ ap (λ x. entries_of (take i statements) ++ entry_of x ∷ entries_of (drop (i + 1) statements)) c.in-Relates.is in
     let refused = map-answer (IsEntryRefusal (names_of c.loop-statement.names) entry) (IfRefused (IsFirstRefusal (entries_of statements)))
     (λ r f (is : f ≡ Refused r) h. rw is (subst (λ x. IsFirstRefusal x r) (sym whole)
-    (built_refused (entries_of (take i statements)) (entries_of (drop (i + 1) statements)) (names_of c.loop-statement.names) c.loop-statement.pairs.items
+    (built_refused (entries_of (take i statements)) (entries_of (drop (i + 1) statements)) (record { names = names_of c.loop-statement.names; pairs = c.loop-statement.pairs.items })
     entry r c.loop-statement.invariant h))) c.find_pair.result (Err fault) c.in_err-pair-in-Relates.ensures.cases c.find_pair.ensures.rejected in
     rw (p.1, p.2) refused
 
@@ -78,11 +79,32 @@ loop-statement-preserved c =
           (mapped-ok w.find_pair.result (Ok pair) pair (λ p. slice_get names p.1 ≡ Some right.text) refl w.in_ok-pair-in-Relates.ensures.cases (λ fault no. no) w.find_pair.ensures.right))
     ]
 
+pub find_pair-requires : goal.find_pair-requires
+find_pair-requires c =
+    (built_kept (entries_of (take c.loop-statement.statement-index c.args.statements.now))
+    (record { names = names_of c.loop-statement.names; pairs = c.loop-statement.pairs.items }) c.loop-statement.invariant).few
+
+pub close-requires-clause-few : goal.close-requires-clause-few
+close-requires-clause-few c =
+    (built_kept (entries_of (take c.loop-statement.statement-index c.args.statements.now))
+    (record { names = names_of c.loop-statement.names; pairs = c.loop-statement.pairs.items }) c.loop-statement.invariant).few
+
+pub close-requires-clause-different : goal.close-requires-clause-different
+close-requires-clause-different c =
+    (built_kept (entries_of (take c.loop-statement.statement-index c.args.statements.now))
+    (record { names = names_of c.loop-statement.names; pairs = c.loop-statement.pairs.items }) c.loop-statement.invariant).different
+
+pub close-requires-clause-there : goal.close-requires-clause-there
+close-requires-clause-there c =
+    (built_kept (entries_of (take c.loop-statement.statement-index c.args.statements.now))
+    (record { names = names_of c.loop-statement.names; pairs = c.loop-statement.pairs.items }) c.loop-statement.invariant).there
+
 pub close-requires-clause-named : goal.close-requires-clause-named
 close-requires-clause-named c =
     let statements = c.args.statements.now in
     let past : length statements ≤ c.loop-statement.statement-index = omega arith in
-    subst (All IsKeptName) (sym c.loop-statement.invariant.same_names)
+    let h : PrincipalHierarchy = record { names = names_of c.loop-statement.names; pairs = c.loop-statement.pairs.items } in
+    subst (All IsKeptName) (sym (built_names (entries_of (take c.loop-statement.statement-index statements)) h c.loop-statement.invariant))
     (subst (λ (x : List HierarchyStatement). All IsKeptName (declared (entries_of x))) (sym (take_all c.loop-statement.statement-index statements past)) c.requires)
 
 pub returns-clause-described : goal.returns-clause-described
@@ -91,12 +113,12 @@ returns-clause-described c =
     let past : length statements ≤ c.loop-statement.statement-index = omega arith in
     let whole : entries_of statements ≡ entries_of (take c.loop-statement.statement-index statements) =
     ap entries_of (sym (take_all c.loop-statement.statement-index statements past)) in
-    built_described (entries_of statements) c.in_ok-close.field-0
-    (built_same whole c.in_ok-close.ensures.names c.in_ok-close.ensures.pairs c.loop-statement.invariant)
+    built_same whole c.in_ok-close.ensures.names c.in_ok-close.ensures.pairs c.loop-statement.invariant
 
 pub returns-clause-kept : goal.returns-clause-kept
 returns-clause-kept c =
-    let built = c.loop-statement.invariant in
+    let h : PrincipalHierarchy = record { names = names_of c.loop-statement.names; pairs = c.loop-statement.pairs.items } in
+    let built = built_kept (entries_of (take c.loop-statement.statement-index c.args.statements.now)) h c.loop-statement.invariant in
     let hierarchy = c.in_ok-close.field-0 in
     record {
       few = subst (λ x. length x ≤ 256) (sym c.in_ok-close.ensures.names) built.few;

@@ -5,10 +5,10 @@ use Rattle.common.specs.Answers.{IfRefused}
 use Rattle.common.proofs.Casting.{cast-answer, mapped-ok, refused-weaker}
 use Rattle.lexer.specs.Cut.{IsCut, IsTextRefused}
 use Rattle.lexer.specs.Terminal.{terminals_of}
-use Rattle.principals.specs.HierarchyText.{IsRefusedText, Long, HasEntries}
+use Rattle.principals.specs.HierarchyText.{IsRefusedText, Long, Wrong, HasEntries}
 use Rattle.principals.specs.Reading.{entries_of, IsFormRefusal, IsFirstRefusal, IsHierarchyForm}
 use Rattle.principals.proofs.Called.{declared_kept}
-use Rattle.principals.proofs.Uniqueness.{form_refused, tokens_refused, wrong_text}
+use Rattle.principals.proofs.Uniqueness.{form_refused, tokens_refused}
 use Rattle.principals.proofs.read.read_text.Goals as goal
 
 pub returns-in_err-tokens-clause-first_fault : goal.returns-in_err-tokens-clause-first_fault
@@ -47,7 +47,7 @@ returns-clause-first_fault c =
           (subst (λ x. IsHierarchyForm (terminals_of c.as_slice.result.now) (entries_of x)) (sym c.as_slice-2.ensures.value) c.in_ok-statements.ensures.form);
     } in
     IfErr-weaker c.hierarchy_of.result (IfRefused (IsFirstRefusal entries)) (IfRefused (IsRefusedText text))
-    (λ f h. refused-weaker (IsFirstRefusal entries) (IsRefusedText text) (λ r refused. wrong_text text entries r has_entries refused) f h) c.hierarchy_of.ensures.first_fault
+    (λ f h. refused-weaker (IsFirstRefusal entries) (IsRefusedText text) (λ r refused. Wrong entries r has_entries refused) f h) c.hierarchy_of.ensures.first_fault
 
 pub hierarchy_of-requires : goal.hierarchy_of-requires
 hierarchy_of-requires c =

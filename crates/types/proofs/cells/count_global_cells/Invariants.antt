@@ -4,7 +4,7 @@ use Rattle.types.specs.Resolution.{next_global_cells}
 use Rattle.types.proofs.Loops.{GoesOn}
 use Rattle.types.proofs.cells.count_global_cells.Given as goal
 use Rattle.common.specs.declared.limits.TheConstants.{MAX_CELLS}
-use Rattle.types.specs.Finding.{along}
+use Rattle.common.specs.Results.{along}
 
 abbrev pub invariant-loop-item : goal.invariant-loop-item
 invariant-loop-item l = record {

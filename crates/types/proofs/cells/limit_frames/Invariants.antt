@@ -3,7 +3,7 @@ use Rattle.types.specs.Resolution.{next_frame}
 use Rattle.types.specs.Views.{tables_view}
 use Rattle.types.proofs.Loops.{GoesOn}
 use Rattle.types.proofs.cells.limit_frames.Given as goal
-use Rattle.types.specs.Finding.{along}
+use Rattle.common.specs.Results.{along}
 
 abbrev pub invariant-loop-procedure : goal.invariant-loop-procedure
 invariant-loop-procedure l =

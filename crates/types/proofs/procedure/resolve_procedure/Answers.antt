@@ -8,7 +8,8 @@ use Rattle.syntax.specs.Tree.{parameter_tree, thrown_tree, procedure_tree}
 use Rattle.resolved.specs.ProgramOf.{thrown_entry, written_at}
 use Rattle.resolved.specs.TreeOf.{block_of}
 use Rattle.common.specs.Answers.{IfRefused}
-use Rattle.types.specs.Finding.{IsRefusalOf, along}
+use Rattle.common.specs.Results.{along}
+use Rattle.types.specs.Finding.{IsRefusalOf}
 use Rattle.types.specs.Labels.{optional_label_finding}
 use Rattle.types.specs.Resolution.{next_parameter, joined_all, next_thrown}
 use Rattle.types.specs.Statements.{after_block, block_finding}

@@ -1,4 +1,4 @@
-use Rattle.types.specs.Finding.{along}
+use Rattle.common.specs.Results.{along}
 use Rattle.std.proofs.Common.{◌≡◌, ℕ, map, nat_eq, []}
 use Rattle.indexmap.specs.IndexSet.{contains}
 use Rattle.syntax.specs.Tree.{thrown_tree}

@@ -1,6 +1,6 @@
 use Rattle.std.proofs.Common.{◌≤◌, ◌+◌, ◌*◌, map}
 use Rattle.syntax.specs.Tree.{parameter_tree}
-use Rattle.types.specs.Finding.{along}
+use Rattle.common.specs.Results.{along}
 use Rattle.types.specs.Resolution.{next_parameter}
 use Rattle.types.specs.Views.{IsLater, item_scope_of, point_of, taken}
 use Rattle.types.proofs.Loops.{GoesOn}

@@ -5,7 +5,7 @@ use Rattle.types.specs.Resolution.{next_item, empty_program}
 use Rattle.types.specs.Views.{AreTablesInside, tables_view, top_view}
 use Rattle.types.proofs.Loops.{GoesOn}
 use Rattle.types.proofs.program.ItemTables.of.Given as goal
-use Rattle.types.specs.Finding.{along}
+use Rattle.common.specs.Results.{along}
 
 abbrev pub invariant-loop-item : goal.invariant-loop-item
 invariant-loop-item l = record {

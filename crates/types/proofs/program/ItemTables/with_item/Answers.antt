@@ -1,8 +1,22 @@
+use Rattle.std.proofs.lemmas.Result.{err_from_is_err_and}
 use Rattle.syntax.specs.Tree.{name_tree, channel_tree, global_tree, procedure_tree}
-use Rattle.types.specs.Views.{top_view}
+use Rattle.types.specs.Views.{top_view, tables_view}
+use Rattle.types.proofs.NextItems.{channel_wrong, global_wrong}
 use Rattle.types.proofs.ItemsAdded.{exception_added, channel_added, global_added, procedure_added, same_inside, channel_inside, procedure_inside}
 use Rattle.types.proofs.program.ItemTables.with_item.Goals as goal
 use Rattle.types.proofs.program.ItemTables.with_item.Goals.{in-Channel+in_ok-resolve_channel-in-Channel+in_ok-push-in-Channel, in-Exception+in_ok-from_str-in-Exception+in_ok-push-in-Exception, in-Global+in_ok-global-in-Global+in_ok-push_global-in-Global, in-Procedure+in_ok-after-in-Procedure+in_ok-push-in-Procedure}
+
+pub returns-in_err-resolve_channel-in-Channel-clause-made : goal.returns-in_err-resolve_channel-in-Channel-clause-made
+returns-in_err-resolve_channel-in-Channel-clause-made c =
+    let p = err_from_is_err_and c.from_residual.result c.from_residual.ensures.1 in
+    rw (p.1, p.2, c.in-Channel.is) (channel_wrong c.args.context.now.hierarchy.now (top_view c.args.context.now.top.now) (tables_view c.args.self)
+    (channel_tree c.in-Channel.one) c.in_err-resolve_channel-in-Channel.field-0.0 c.in_err-resolve_channel-in-Channel.ensures.made)
+
+pub returns-in_err-global-in-Global-clause-made : goal.returns-in_err-global-in-Global-clause-made
+returns-in_err-global-in-Global-clause-made c =
+    let p = err_from_is_err_and c.from_residual-in_err-global-in-Global.result c.from_residual-in_err-global-in-Global.ensures.1 in
+    rw (p.1, p.2, c.in-Global.is) (global_wrong c.args.context.now.hierarchy.now (top_view c.args.context.now.top.now) (tables_view c.args.self)
+    (global_tree c.in-Global.one) c.in_err-global-in-Global.field-0.0 c.in_err-global-in-Global.ensures.made)
 
 pub returns-clause-made : goal.returns-clause-made
 returns-clause-made c =

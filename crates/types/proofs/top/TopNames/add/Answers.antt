@@ -1,11 +1,19 @@
 use Rattle.std.proofs.Common.{◌≡◌, [], ◌∷◌, ◌++◌, map, Ok, ap, sym, ◌∙◌}
 use Rattle.std.proofs.lemmas.List.{map_push}
+use Rattle.std.proofs.lemmas.Result.{err_from_is_err_and}
 use Rattle.syntax.specs.declared.tree.Item.{Item}
 use Rattle.syntax.specs.Tree.{item_tree, name_tree}
 use Rattle.types.specs.Resolution.{counted}
 use Rattle.types.specs.Views.{found_in, signature_view, top_view}
+use Rattle.types.proofs.NextItems.{name_wrong}
 use Rattle.types.proofs.Tables.{named}
 use Rattle.types.proofs.top.TopNames.add.Goals as goal
+
+pub returns-in_err-require_fresh-clause-made : goal.returns-in_err-require_fresh-clause-made
+returns-in_err-require_fresh-clause-made c =
+    let p = err_from_is_err_and c.from_residual.result c.from_residual.ensures.1 in
+    rw (p.1, p.2) (name_wrong (top_view c.args.self.now) (item_tree c.args.item.now) (name_tree c.name_of-name.result.now) c.find.result c.in_err-require_fresh.field-0.0
+    c.name_of-name.ensures c.find.ensures c.in_err-require_fresh.ensures.made)
 
 pub returns-in-Channel-clause-made : goal.returns-in-Channel-clause-made
 returns-in-Channel-clause-made c =

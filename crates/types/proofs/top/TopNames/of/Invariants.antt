@@ -4,7 +4,7 @@ use Rattle.types.specs.Resolution.{next_name, built_in}
 use Rattle.types.specs.Views.{top_view}
 use Rattle.types.proofs.Loops.{GoesOn}
 use Rattle.types.proofs.top.TopNames.of.Given as goal
-use Rattle.types.specs.Finding.{along}
+use Rattle.common.specs.Results.{along}
 
 abbrev pub invariant-loop-item : goal.invariant-loop-item
 invariant-loop-item l = record {
