@@ -11,6 +11,7 @@ ghost use Rattle.std.specs.Prelude.{IfErr, IfOk, [], ◌≡◌};
 ghost use Rattle.syntax.specs.Tree.{program_tree};
 
 use acceptance::RefusalKind;
+use bumpalo::Bump;
 use common::limits::MAX_TEXT;
 use common::{OrNoMemory, RefusalAt};
 use lexer::lex;
@@ -54,17 +55,35 @@ pub(crate) fn analyse(
             at: 0,
         }));
     }
-    let tree = read(alloc, source)?;
-    let core = resolve(alloc, tree, hierarchy).map_err(OrNoMemory::cast_kind)?;
+    let core = resolve_source(alloc, hierarchy, source)?;
     let ends = ends(alloc, &core).map_err(OrNoMemory::cast_kind)?;
     Ok(Analysed { core, ends })
 }
 
-// The tree that a source spells, whose names are slices of it.
-fn read(
+// The resolved program that a source stands for. Its tree is given up at the end.
+fn resolve_source(
     alloc: Global,
+    hierarchy: &Hierarchy,
     source: &str,
-) -> Result<syntax::Program<'_>, OrNoMemory<RefusalAt<RefusalKind>>>
+) -> Result<Core, OrNoMemory<RefusalAt<RefusalKind>>>
+    requires text { IsText source.now }
+    ensures resolved { IfOk result (λ core.
+        IsResolvedFrom hierarchy.now source.now (program_of core)) }
+    ensures first_fault { IfErr result (IfRefused (IsFoundRefusal hierarchy.now source.now)) }
+    ensures before_labels { IfErr result (IfRefused IsBeforeLabels) }
+{
+    let arena = Bump::new(alloc);
+    let tree = read(alloc, &arena, source)?;
+    let core = resolve(alloc, tree, hierarchy).map_err(OrNoMemory::cast_kind)?;
+    Ok(core)
+}
+
+// The tree that a source spells, whose names are slices of it, and whose operands lie in an arena.
+fn read<'a>(
+    alloc: Global,
+    arena: &'a Bump,
+    source: &'a str,
+) -> Result<syntax::Program<'a>, OrNoMemory<RefusalAt<RefusalKind>>>
     requires text { IsText source.now }
     ensures spelled { IfOk result (λ tree. IsTreeOf source.now (program_tree tree)) }
     ensures first_fault { (h : PrincipalHierarchy) → IfErr result (IfRefused
@@ -72,6 +91,6 @@ fn read(
     ensures before_labels { IfErr result (IfRefused IsBeforeLabels) }
 {
     let tokens = lex(alloc, source).map_err(OrNoMemory::cast_kind)?;
-    let tree = parse(alloc, tokens.as_slice()).map_err(OrNoMemory::cast_kind)?;
+    let tree = parse(alloc, arena, tokens.as_slice()).map_err(OrNoMemory::cast_kind)?;
     Ok(tree)
 }

@@ -3,12 +3,12 @@
 ghost use Rattle.checker.specs.Reported.{HasFlow, IsFirstFault, StandForNone, TextsAskForFlow};
 ghost use Rattle.common.specs.Answers.{IfRefused};
 ghost use Rattle.compiler.specs.Compiled.{IsCodeOf, IsCompiled};
-ghost use Rattle.isolation.specs.Larger.{IsolatedUnderLarger};
 ghost use Rattle.resolved.specs.CoreOf.{program_of};
 ghost use Rattle.std.specs.Prelude.{IfErr, IfOk, IfSome};
 
 use bytecode::encode;
 use checker::{Checked, Fault, check_texts};
+use isolation::noninterference::labelled_programs_stay_isolated;
 use layout::emit;
 use lowering::lower;
 use std::alloc::{AllocError, Global};
@@ -33,15 +33,22 @@ pub fn compile(alloc: Global, hierarchy: &[u8], source: &[u8]) -> Result<Vec<u8>
         (TextsAskForFlow hierarchy.now source.now refusal))) }
 {
     let checked = check_texts(alloc, hierarchy, source)?;
-    let code = code_of(alloc, &checked)?;
+    let code = compile_checked(alloc, &checked)?;
     Ok(code)
 }
 
-// The bytes of the module of a checked program, which is isolated.
-fn code_of(alloc: Global, checked: &Checked) -> Result<Vec<u8>, AllocError>
-    requires { IsolatedUnderLarger (program_of checked.now.core) }
+/// The bytes of the module of a checked program.
+///
+/// # Errors
+///
+/// Memory ran out.
+pub fn compile_checked(alloc: Global, checked: &Checked) -> Result<Vec<u8>, AllocError>
     ensures { IfOk result (λ code. IsCodeOf (program_of checked.now.core) code.items) }
 {
+    labelled_programs_stay_isolated();
+    let core = checked.core();
+    // Its contract says that this is a hierarchy.
+    let _count = core.hierarchy.count();
     let graph = lower(alloc, checked)?;
     let module = emit(alloc, &graph)?;
     let code = encode(alloc, &module)?;

@@ -4,4 +4,4 @@
 mod compilation;
 
 pub use checker::{Fault, Refusal};
-pub use compilation::compile;
+pub use compilation::{compile, compile_checked};

@@ -1,11 +1,12 @@
 -- Constraints that were added one after the other.
 use Rattle.std.proofs.Common.{map, ◌≡◌, refl, sym, ap, ◌∙◌, List, [], ◌∷◌, ◌++◌, Bool, true, false, ℕ, append_assoc, append-nil}
-use Rattle.std.specs.Prelude.{Option, if◌then◌else◌}
+use Rattle.std.specs.Prelude.{Option, None, if◌then◌else◌}
 use Rattle.std.proofs.lemmas.List.{map-append}
 use Rattle.labels.specs.Label.{Label}
 use Rattle.resolved.specs.CoreOf.{program_of}
 use Rattle.resolved.specs.Exits.{thrown_exits}
 use Rattle.resolved.specs.declared.program.Core.{Core}
+use Rattle.resolved.specs.declared.statement.Exit.{Exit}
 use Rattle.resolved.specs.declared.statement.Exit.TheVariants.{Throw}
 use Rattle.gathering.specs.Names.{NamedAtom, NamedConstraint}
 use Rattle.gathering.specs.Walk as walk
@@ -73,6 +74,14 @@ flows-list atoms exit_unknowns true true = ap (λ cs. flow atoms (exit_unknowns 
 flows-list atoms exit_unknowns true false = refl
 flows-list atoms exit_unknowns false true = append-nil (flow atoms (exit_unknowns (Throw 1)))
 flows-list atoms exit_unknowns false false = refl
+
+-- nothing was added where neither an exit nor what is raised has an exit unknown
+pub added-nowhere : (core : Core) (table : List Label) (atoms : List NamedAtom) (exit_unknowns : walk.ExitUnknowns) (exit : Exit) (exceptions : List ℕ) (old : List Stored)
+    → exit_unknowns exit ≡ None → raised_flows atoms exit_unknowns exceptions ≡ []
+    → AreAdded core table (flow atoms (exit_unknowns exit) ++ raised_flows atoms exit_unknowns exceptions) old old
+added-nowhere core table atoms exit_unknowns exit exceptions old none empty =
+    added-same core table (flow atoms (exit_unknowns exit) ++ raised_flows atoms exit_unknowns exceptions) [] old old
+    (ap (λ unknown. flow atoms unknown ++ raised_flows atoms exit_unknowns exceptions) none ∙ empty) (added-none core table old)
 
 pub raised-flows : (atoms : List NamedAtom) (exit_unknowns : walk.ExitUnknowns) (found : Raises) (exceptions : List ℕ) → AreRaised found exceptions
     → raised_flows atoms exit_unknowns exceptions ≡ flow_if found.arith atoms (exit_unknowns (Throw 0)) ++ flow_if found.bounds atoms (exit_unknowns (Throw 1))

@@ -1,8 +1,11 @@
 //! The context of what is walked and gathered.
 ghost use Rattle.constraints.specs.ExitUnknowns.{exit_unknowns_around, exit_unknowns_of};
-ghost use Rattle.std.specs.Prelude.{◌≡◌};
+ghost use Rattle.gathering.specs.Names.{NamedAtom};
+ghost use Rattle.gathering.specs.Walk.{raised_flows};
+ghost use Rattle.std.specs.Prelude.{IsTrue, List, None, [], ℕ, ◌≡◌};
 
 use crate::exit_unknowns::{ExitUnknown, ExitUnknowns};
+use common::exceptions::{ARITH, BOUNDS};
 use resolved::statement::Exit;
 use solver::Atom;
 
@@ -43,5 +46,28 @@ impl<'a> Around<'a> {
         ensures { result ≡ exit_unknowns_around self.now exit }
     {
         self.exit_unknowns.at(self.thrown, exit)
+    }
+
+    // Whether no exception that expressions can raise has an exit unknown: most statements have one exit only, and then none has.
+    pub(crate) fn raises_nowhere(&self) -> bool
+        ensures { IsTrue result → (left : List NamedAtom) (exceptions : List ℕ) →
+            raised_flows left (exit_unknowns_around self.now) exceptions ≡ [] }
+    {
+        if self.exit_unknown(Exit::Throw(ARITH)).is_some() {
+            return false;
+        }
+        self.exit_unknown(Exit::Throw(BOUNDS)).is_none()
+    }
+
+    // Whether that holds, and the exit has none either.
+    pub(crate) fn ends_nowhere(&self, exit: Exit) -> bool
+        ensures exit { IsTrue result → exit_unknowns_around self.now exit ≡ None }
+        ensures raised { IsTrue result → (left : List NamedAtom) (exceptions : List ℕ) →
+            raised_flows left (exit_unknowns_around self.now) exceptions ≡ [] }
+    {
+        if self.exit_unknown(exit).is_some() {
+            return false;
+        }
+        self.raises_nowhere()
     }
 }

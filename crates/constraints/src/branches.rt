@@ -92,6 +92,9 @@ impl<'a> ProcedureWalk<'a> {
             (exit_unknowns_around around.now) (raises (expression_of condition.now)))
             constraints.old.items constraints.new.items) }
     {
+        if around.raises_nowhere() {
+            return Ok(());
+        }
         let left = self.left_of_raise(around.pc, condition)?;
         let found = raises_of(condition);
         self.table

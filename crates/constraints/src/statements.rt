@@ -76,6 +76,9 @@ impl<'a> ProcedureWalk<'a> {
         let valued = self.left_of_value(around.pc, value)?;
         self.table
             .add_rule(demand.at, demand.rule, valued, demand.target, constraints)?;
+        if around.ends_nowhere(exit) {
+            return Ok(());
+        }
         let left = self.left_of_raise(around.pc, value)?;
         let found = raises_of(value);
         self.add_exits(&left, around, exit, found, constraints)?;

@@ -87,6 +87,9 @@ impl<'a> ProcedureWalk<'a> {
         let stored = self.left_of_stored(around.pc, index, value)?;
         self.table
             .add_rule(store.at, Rule::Store, stored, target, constraints)?;
+        if around.ends_nowhere(Exit::Normal) {
+            return Ok(());
+        }
         let left = self.left_of_store(around.pc, store.length, index, value)?;
         let found = raises_of_store(store.length, index, value);
         self.add_exits(&left, around, Exit::Normal, found, constraints)?;

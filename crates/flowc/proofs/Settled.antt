@@ -1,12 +1,17 @@
 -- What the status of a check or a build says of the texts.
-use Rattle.std.proofs.Common.{◌≡◌, ◌∙◌, sym, subst, arith, refl, ℕ, List, Result, Ok, Err, OnOk, IfOk, IfErr, MatchResult}
+use Rattle.std.proofs.Common.{◌≡◌, ◌∙◌, sym, subst, arith, refl, ℕ, List, Option, Some, None, Result, Ok, Err, OnOk, IfOk, IfErr, MatchResult}
+use Rattle.std.specs.Prelude.{IfSome}
+use Rattle.acceptance.specs.Accepted.{StandFor}
 use Rattle.common.specs.Answers.{IfRefused}
 use Rattle.common.specs.declared.fault.OrNoMemory.{OrNoMemory}
 use Rattle.common.specs.declared.fault.OrNoMemory.TheVariants as or
+use Rattle.checker.specs.Checked.{CheckedProgram}
 use Rattle.checker.specs.Reported.{StandForNone}
+use Rattle.resolved.specs.CoreOf.{program_of}
 use Rattle.flowc.specs.Compiled.{AreAccepted}
 use Rattle.flowc.specs.Task.{status_of_fault}
 use Rattle.flowc.specs.declared.fault.PerformFault.{PerformFault}
+use Rattle.flowc.specs.declared.texts.Accepted.{Accepted}
 use Rattle.flowc.specs.declared.fault.PerformFault.TheVariants.{Refused, CannotWrite, NoMemory}
 
 -- with status 0 what was promised of an `Ok` holds
@@ -37,3 +42,11 @@ not_accepted h s fault refusal is none accepted = subst (IfRefused (λ _. StandF
 pub accepted_along : (h s h' s' : List ℕ) → h ≡ h' → s ≡ s' → AreAccepted h s → AreAccepted h' s'
 accepted_along h s h' s' eh es accepted =
     subst (λ (source : List ℕ). AreAccepted h' source) es (subst (λ (hierarchy : List ℕ). AreAccepted hierarchy s) eh accepted)
+
+-- the program that is handed out is that of the texts, also under other names
+pub handed_along : (h s h' s' : List ℕ) (outcome : Result Accepted PerformFault) (given : Option CheckedProgram) → h ≡ h' → s ≡ s'
+    → IfOk outcome (λ accepted. StandFor h s (program_of accepted.checked.core))
+    → MatchResult outcome (λ accepted. given ≡ Some accepted.checked) (λ _. given ≡ None)
+    → IfSome given (λ checked. StandFor h' s' (program_of checked.core))
+handed_along h s h' s' (Ok accepted) given eh es stand is = rw (is, sym eh, sym es) stand
+handed_along h s h' s' (Err fault) given eh es stand is = rw is tt

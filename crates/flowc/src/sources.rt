@@ -119,7 +119,7 @@ impl From<SourceFault> for ReadFault {
 const MOST: usize = MAX_TEXT + 1;
 
 // The bytes that one read asks for.
-const CHUNK: usize = 4096;
+const CHUNK: usize = 16 * 1024;
 
 /// The bytes of a source up to its end, or the first 1,048,577 of them: one more than a text may have, so that who is given them
 /// sees that there are too many. Memory grows by what was read.

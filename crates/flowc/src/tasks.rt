@@ -1,3 +1,4 @@
+ghost use Rattle.acceptance.specs.Accepted.{StandFor};
 ghost use Rattle.command_line.specs.Task.{path_if_given};
 ghost use Rattle.flowc.specs.Compiled.{HoldsProgram, IsBuilt, bytes_at, text_at};
 ghost use Rattle.flowc.specs.Given.{text_of};
@@ -5,7 +6,8 @@ ghost use Rattle.flowc.specs.Lines.{line_of_fault};
 ghost use Rattle.flowc.specs.Messages.{WritesMessage, WroteLine};
 ghost use Rattle.flowc.specs.Stdout.{WritesStdout};
 ghost use Rattle.flowc.specs.Task.{files_of, makes_file, may_end, reads_source, status_of_fault};
-ghost use Rattle.std.specs.Prelude.{[], ◌≡◌, ◌+◌, ◌≤◌, ◌<◌, ◌↔◌, IfSome, IsSome, IsTrue, MatchResult, None, length, option_map};
+ghost use Rattle.resolved.specs.CoreOf.{program_of};
+ghost use Rattle.std.specs.Prelude.{[], ◌≡◌, ◌+◌, ◌≤◌, ◌<◌, ◌↔◌, IfSome, IsSome, IsTrue, MatchResult, None, Some, length, option_map};
 ghost use Rattle.std.specs.String.{string_bytes};
 
 use crate::ended::Ended;
@@ -14,16 +16,29 @@ use crate::fault::PerformFault;
 use crate::list::list_module;
 use crate::reading::File;
 use crate::running::{RunFiles, run};
-use crate::texts::{build, check};
+use crate::texts::{Accepted, build, check};
 use channels::{Sink, write_all};
+use checker::Checked;
 use command_line::Task;
 use std::alloc::Global;
+use std::fmt;
 
 /// What the program leaves to do: its exit status, and the bytes for the output file if it makes one.
-#[derive(Debug, Drop)]
+///
+/// A check and a build also hand out the program that they checked, so that who called them decides when it is freed: it is a tree of
+/// many small pieces, and freeing them takes about a twentieth of a check. A process that ends with the task need not do so.
+#[derive(Drop)]
 pub struct Done {
     pub status: u8,
     pub code: Option<Vec<u8>>,
+    pub checked: Option<Checked>,
+}
+
+// The checked program is left out: its size is that of the source.
+impl fmt::Debug for Done {
+    fn fmt<W: fmt::Write>(&self, f: &mut fmt::Formatter<W>) -> fmt::Result {
+        write!(f, "{:?} {:?}", self.status, self.code)
+    }
 }
 
 /// Does a task: all of the program but for its files. What goes to standard output and to standard error is written to the
@@ -32,7 +47,8 @@ pub struct Done {
 /// On standard error stands one line: the fault that the task ended with, or, of a run without an observer, the end that it came to.
 /// Any other task that ends with status 0 has no line.
 ///
-/// There are bytes for the output file exactly where a task builds a module and ends with status 0.
+/// There are bytes for the output file exactly where a task builds a module and ends with status 0. A checked program that is handed
+/// out is the one that the texts of the first two files stand for.
 pub fn perform<O: Sink, E: Sink>(
     alloc: Global,
     task: &Task,
@@ -45,6 +61,8 @@ pub fn perform<O: Sink, E: Sink>(
     ensures status { IsTrue (may_end task.now result.status) }
     ensures code { IsSome result.code ↔ (IsTrue (makes_file task.now) × (result.status ≡ 0)) }
     ensures compiled { IfSome result.code (λ code. IsBuilt files.now code.items) }
+    ensures checked { IfSome result.checked (λ checked. StandFor
+        (bytes_at files.now 0) (bytes_at files.now 1) (program_of checked.core)) }
     ensures accepted { IsTrue (reads_source task.now) → result.status ≡ 0 → HoldsProgram files.now }
     ensures rejected { IsTrue (reads_source task.now) → result.status ≡ 1 →
         ¬ HoldsProgram files.now }
@@ -56,11 +74,11 @@ pub fn perform<O: Sink, E: Sink>(
     match task {
         Task::Check { hier, src } => {
             let (hierarchy, source) = (file_at(hier, files, 0), file_at(src, files, 1));
-            finish(check(alloc, hierarchy, source, out), err)
+            finish_texts(check(alloc, hierarchy, source, out), err)
         }
         Task::Build { hier, src, .. } => {
             let (hierarchy, source) = (file_at(hier, files, 0), file_at(src, files, 1));
-            finish_build(build(alloc, hierarchy, source), err)
+            finish_texts(build(alloc, hierarchy, source), err)
         }
         Task::Run {
             file,
@@ -125,6 +143,7 @@ fn run_files<'a>(
 // The end of a task that leaves nothing for a file. Where standard error fails too, there is nowhere left to report it.
 fn finish<E: Sink>(outcome: Result<Ended, PerformFault>, err: &mut E) -> Done
     ensures code { result.code ≡ None }
+    ensures checked { result.checked ≡ None }
     ensures status { MatchResult outcome
         (λ ended. result.status ≡ ended.status) (λ fault. result.status ≡ status_of_fault fault) }
     ensures message { MatchResult outcome
@@ -139,13 +158,19 @@ fn finish<E: Sink>(outcome: Result<Ended, PerformFault>, err: &mut E) -> Done
     };
     // Where standard error fails too, nothing is left to report it on.
     let _ = write_all(err, line.as_bytes());
-    Done { status, code: None }
+    Done {
+        status,
+        code: None,
+        checked: None,
+    }
 }
 
-// The end of a task that leaves bytes for a file.
-fn finish_build<E: Sink>(outcome: Result<Vec<u8>, PerformFault>, err: &mut E) -> Done
+// The end of a task that checks a source.
+fn finish_texts<E: Sink>(outcome: Result<Accepted, PerformFault>, err: &mut E) -> Done
     ensures code { MatchResult outcome
-        (λ code. result.code ≡ Some code) (λ _. result.code ≡ None) }
+        (λ accepted. result.code ≡ accepted.code) (λ _. result.code ≡ None) }
+    ensures checked { MatchResult outcome
+        (λ accepted. result.checked ≡ Some accepted.checked) (λ _. result.checked ≡ None) }
     ensures status { MatchResult outcome
         (λ _. result.status ≡ 0) (λ fault. result.status ≡ status_of_fault fault) }
     ensures message { MatchResult outcome
@@ -154,15 +179,20 @@ fn finish_build<E: Sink>(outcome: Result<Vec<u8>, PerformFault>, err: &mut E) ->
         (E.taken err.old) (E.taken err.new) (E.has_failed err.new)) }
 {
     match outcome {
-        Ok(code) => Done {
+        Ok(accepted) => Done {
             status: 0,
-            code: Some(code),
+            code: accepted.code,
+            checked: Some(accepted.checked),
         },
         Err(fault) => {
             let (status, line) = fault.report();
             // Where standard error fails too, nothing is left to report it on.
             let _ = write_all(err, line.as_bytes());
-            Done { status, code: None }
+            Done {
+                status,
+                code: None,
+                checked: None,
+            }
         }
     }
 }

@@ -9,6 +9,7 @@ use common::OrNoMemory;
 use flowc::{Feed, SourceFault, Task, TaskRefusal, perform, read_text, task};
 use std::alloc::AllocError;
 use std::io::{Error, ErrorKind};
+use std::mem::forget;
 use std::process::ExitCode;
 use std::rt::Files;
 use std::{env, fs};
@@ -25,7 +26,8 @@ enum ProgramRefusal {
 }
 
 // The most bytes of a block that the allocator of the C library takes from the memory that it keeps, once it has seen such a block
-// freed; before, each large block that is freed goes back to the system.
+// freed; before, each large block that is freed goes back to the system. A second such block makes room that is asked for at once
+// and not piece by piece; memory is taken where it is written to.
 const LARGE_BLOCK: usize = 32 * 1024 * 1024 - 64 * 1024;
 
 // Why the program stops.
@@ -39,8 +41,10 @@ impl From<TaskRefusal> for ProgramRefusal {
 }
 
 fn main(rt: HostRuntime) -> ExitCode {
-    if let Ok(block) = Vec::<u8>::with_capacity(rt.alloc(), LARGE_BLOCK) {
-        drop(block);
+    for _ in 0..2 {
+        if let Ok(block) = Vec::<u8>::with_capacity(rt.alloc(), LARGE_BLOCK) {
+            drop(block);
+        }
     }
     match perform_words(&rt) {
         Ok(status) => ExitCode::from(status),
@@ -75,7 +79,10 @@ fn perform_words(rt: &HostRuntime) -> Result<u8, ProgramFault> {
     if let (Task::Build { out, .. }, Some(code)) = (&asked, &outcome.code) {
         write(rt, out.as_str(), code)?;
     }
-    Ok(outcome.status)
+    let status = outcome.status;
+    // The process ends here, and the system takes its memory back as a whole.
+    forget(outcome);
+    Ok(status)
 }
 
 // The bytes of each file that the task reads, at most three, in the order in which it names them.

@@ -13,6 +13,7 @@ ghost use Rattle.parser.specs.declared.fault.ParseRefusalKind.{ParseRefusalKind}
 
 use crate::cursor::Parser;
 use crate::fault::ParseFault;
+use bumpalo::Bump;
 use common::limits::MAX_LEVELS;
 use lexer::{Kind, Token};
 use std::alloc::Global;
@@ -31,7 +32,8 @@ impl<'t, 'a> Parser<'t, 'a> {
     }
 }
 
-/// The program that tokens spell, whose names are slices of the source, as the texts of the tokens are.
+/// The program that tokens spell, whose names are slices of the source, as the texts of the tokens are, and whose operands lie in an
+/// arena.
 ///
 /// Precondition: the last token, and no other, is the end marker.
 ///
@@ -39,7 +41,11 @@ impl<'t, 'a> Parser<'t, 'a> {
 ///
 /// The first fault in the order of the tokens: one that is unexpected, or one that opens a level where 64 are open. At one token
 /// the first comes before the second. Or out of memory.
-pub fn parse<'a>(alloc: Global, tokens: &[Token<'a>]) -> Result<Program<'a>, ParseFault>
+pub fn parse<'a>(
+    alloc: Global,
+    arena: &'a Bump,
+    tokens: &[Token<'a>],
+) -> Result<Program<'a>, ParseFault>
     requires ended { IsTerminated (terminals_of tokens.now) }
 
     // All the tokens together spell the answer, which has at most as many nodes.
@@ -60,6 +66,7 @@ pub fn parse<'a>(alloc: Global, tokens: &[Token<'a>]) -> Result<Program<'a>, Par
 {
     let mut parser = Parser {
         alloc,
+        arena,
         rest: tokens,
     };
     let items = parser.parse_program()?;

@@ -468,6 +468,7 @@ impl<'t, 'a> Parser<'t, 'a> {
         }
     }
 
+    #[inline(always)]
     #[tactic(auto, unfolding(crate::specs::Reading::read))]
     fn parse_assigned(&mut self, room: u32) -> Result<RightSide<'a>, ParseFault>
         ensures { IsRead right_tree result self.new.rest.now (read room (Assign ▸ right_read)

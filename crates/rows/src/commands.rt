@@ -80,7 +80,8 @@ fn keep(texts: &mut Texts, asked: &Task, outcome: Done) -> Result<(), LineFault>
     let Task::Build { out, .. } = asked else {
         return Ok(());
     };
-    match outcome.code {
+    let Done { code, .. } = outcome;
+    match code {
         Some(code) => texts.put(out, code),
         None => {
             texts.forget(out);

@@ -1,5 +1,6 @@
 //! An order along the flow, in which constraints are looked at first. What is found does not depend on it, only how often constraints
-//! are looked at again: where no flow comes back to where it was, each is looked at once.
+//! are looked at again: where no flow comes back to where it was, each is looked at once. Where few written elements stand on left sides,
+//! none is looked for, since a row then grows at most as many times, in whatever order.
 ghost use Rattle.std.specs.List.{sum};
 ghost use Rattle.std.specs.Prelude.{OnOk, Option, length, ◌*◌, ◌+◌, ◌<◌, ◌≡◌, ◌≤◌};
 ghost use Rattle.solver.specs.Walks.{IsTaken};
@@ -7,6 +8,9 @@ ghost use Rattle.solver.specs.Walks.{IsTaken};
 use crate::constraints::Atom;
 use crate::edges::{Edge, EdgeRows, Edges};
 use std::alloc::{AllocError, Global};
+
+// An order is looked for only where more written elements than this stand on left sides.
+const FEW: usize = 8;
 
 // A walk along edges, each once: how many edges from each unknown are left, which unknowns were entered, those on the way, and those
 // that are done, each after all that it leads to.
@@ -131,9 +135,26 @@ impl Placed {
     }
 }
 
+// Whether few written elements stand on left sides.
+fn are_few(written: &EdgeRows) -> bool {
+    let mut found = 0;
+    for number in 0..written.len() {
+        if !written.row(number).is_empty() {
+            if found >= FEW {
+                return false;
+            }
+            found += 1;
+        }
+    }
+    true
+}
+
 /// This many constraints, by their indices, along the flow: a constraint without unknowns on the left comes first, and any other one
-/// after those whose right side is an unknown on its left, but where the flow comes back.
+/// after those whose right side is an unknown on its left, but where the flow comes back. None where the order matters little.
 pub fn order_of(alloc: Global, edges: &Edges, count: usize) -> Result<Vec<usize>, AllocError> {
+    if are_few(&edges.written) {
+        return Ok(Vec::new(alloc));
+    }
     let done = walked(alloc, &edges.unknown)?;
     let mut placed = Placed {
         marks: vec![in alloc; false; count]?,

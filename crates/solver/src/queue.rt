@@ -94,7 +94,7 @@ impl Queue {
     }
 }
 
-/// All constraints whose right side is an unknown, along the flow.
+/// All constraints whose right side is an unknown, along the flow where that matters, or in their order.
 pub fn all_queued<T>(
     alloc: Global,
     edges: &Edges,

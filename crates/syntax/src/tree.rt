@@ -40,8 +40,8 @@ pub enum BinaryOperator {
     Connect(Connective),
 }
 
-/// An expression. Parentheses leave no trace.
-#[derive(Debug, Drop)]
+/// An expression. Parentheses leave no trace. Its operands lie in the arena of its tree.
+#[derive(Clone, Copy, Debug)]
 pub enum Expression<'a> {
     Integer {
         at: usize,
@@ -54,18 +54,18 @@ pub enum Expression<'a> {
     Variable(Name<'a>),
     Element {
         array: Name<'a>,
-        index: Box<Expression<'a>>,
+        index: &'a Expression<'a>,
     },
     Unary {
         at: usize,
         operator: Prefix,
-        operand: Box<Expression<'a>>,
+        operand: &'a Expression<'a>,
     },
     /// It begins where its left operand does.
     Binary {
         at: usize,
         operator: BinaryOperator,
-        operands: Box<(Expression<'a>, Expression<'a>)>,
+        operands: &'a (Expression<'a>, Expression<'a>),
     },
 }
 

@@ -1,4 +1,5 @@
-//! Statements, and the blocks and handlers that they hold.
+//! Statements, and the blocks and handlers that they hold. Each kind of statement is resolved by a call of its own: inlined into the
+//! loop over a block, a statement is taken apart and put together again.
 
 ghost use Rattle.types.specs.Statements.{after_block, block_finding, catches_finding, statement_finding, statements_finding};
 ghost use Rattle.types.specs.Views.{Resolves, IsLater, at_point, block_view, handlers_view, point_of, setting_of, taken};
@@ -109,6 +110,7 @@ impl<'a, 'n> BodyScope<'a, 'n> {
 
     /// A statement. The function is longer than others, since it is one match over all statements.
     #[cycle(block)]
+    #[inline(never)]
     #[tactic(auto, unfolding(crate::specs::Statements::statement_finding))]
     fn resolve_statement(&mut self, written: &syntax::Statement<'n>) -> Result<Statement, TypeFault>
         requires room { taken self.old + statement_nodes (statement_tree written.now) < most_nodes }
@@ -167,6 +169,7 @@ impl<'a, 'n> BodyScope<'a, 'n> {
 
     /// A condition with a block or two.
     #[cycle(block)]
+    #[inline(never)]
     fn resolve_if(
         &mut self,
         at: usize,
@@ -199,6 +202,7 @@ impl<'a, 'n> BodyScope<'a, 'n> {
 
     /// A loop.
     #[cycle(block)]
+    #[inline(never)]
     #[tactic(auto, unfolding(crate::specs::Statements::statement_finding))]
     fn resolve_while(
         &mut self,
@@ -225,6 +229,7 @@ impl<'a, 'n> BodyScope<'a, 'n> {
 
     /// A block with handlers.
     #[cycle(block)]
+    #[inline(never)]
     fn resolve_try(
         &mut self,
         at: usize,
@@ -248,6 +253,7 @@ impl<'a, 'n> BodyScope<'a, 'n> {
 
     /// A block among statements.
     #[cycle(block)]
+    #[inline(never)]
     fn resolve_nested(&mut self, block: &Block<'n>) -> Result<Statement, TypeFault>
         requires room { taken self.old + statement_nodes (NestedTree (block_tree block.now)) <
             most_nodes }

@@ -120,6 +120,7 @@ impl<'a, 'n> BodyScope<'a, 'n> {
 
     /// Declares a parameter or local of this name, which takes the next slot. Precondition: it is the name of the slot, and there are
     /// fewer labels, slots and loops than a program may have nodes.
+    #[inline(always)]
     pub fn declare(&mut self, name: &'n str, slot: NewSlot) -> Result<(), TypeFault>
         requires named { (new_slot_entry self.old.variables.labels slot).name ≡ name.now }
         requires fresh { names_of self.old name.now ≡ None }

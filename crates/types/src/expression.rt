@@ -158,6 +158,7 @@ impl<'a, 'n> BodyScope<'a, 'n> {
     /// # Errors
     ///
     /// What [`BodyScope::resolve_expression`] reports of it, and then 401 where its values have another type; or out of memory.
+    #[inline(always)]
     #[tactic(auto, unfolding(crate::specs::Expressions::typed_finding))]
     pub fn type_expression(
         &self,

@@ -57,6 +57,7 @@ pub fn value_base(operator: BinaryOperator) -> BaseType
 /// # Errors
 ///
 /// Out of memory.
+#[inline(always)]
 pub fn combine(
     alloc: Global,
     operator: BinaryOperator,

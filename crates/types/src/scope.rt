@@ -133,6 +133,7 @@ pub fn find_in_either(first: &Names, second: &Names, name: &str) -> Option<Meani
 }
 
 /// Puts a name into a table, where it has this meaning from now on.
+#[inline(always)]
 pub fn insert(
     alloc: Global,
     table: &mut Names,

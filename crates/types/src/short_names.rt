@@ -111,6 +111,7 @@ impl ShortNames {
     }
 
     /// What a number stands for.
+    #[inline(always)]
     pub fn find(&self, number: u128) -> Option<Meaning>
         ensures { result ≡
             found_short self.now.shift self.now.buckets.items self.now.others number }
@@ -136,6 +137,7 @@ impl ShortNames {
     }
 
     // Lets a number stand for this. Of two that lead to one bucket the later one takes it.
+    #[inline(always)]
     fn put(&mut self, number: u128, meaning: Meaning) -> Result<(), AllocError>
         ensures { OnOk result (Updates number (Some meaning)
             (found_short self.old.shift self.old.buckets.items self.old.others)

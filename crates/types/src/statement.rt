@@ -1,4 +1,4 @@
-//! Statements that hold no others.
+//! Statements that hold no others. Each kind is resolved by a call of its own, as those that hold others are.
 
 ghost use Rattle.types.specs.Statements as spec;
 ghost use Rattle.types.specs.Statements.{arguments_finding, assigned_finding, call_finding, declare_array_finding, declare_finding, return_finding, size_finding, statement_finding};
@@ -120,6 +120,7 @@ impl<'a, 'n> BodyScope<'a, 'n> {
     }
 
     /// The assignment of a right side to a variable of a type, by a statement that begins at a byte.
+    #[inline(never)]
     #[tactic(auto, unfolding(crate::specs::Statements::assigned_finding))]
     fn resolve_right_side(
         &self,
@@ -160,6 +161,7 @@ impl<'a, 'n> BodyScope<'a, 'n> {
     /// # Errors
     ///
     /// Out of memory.
+    #[inline(always)]
     pub fn make_slot(
         &self,
         at: usize,
@@ -193,6 +195,7 @@ impl<'a, 'n> BodyScope<'a, 'n> {
     ///
     /// 301, 303, 305 and 403 in its label, 302 where its name is in scope already, then 301 and 401 to 403 in its first value; or
     /// out of memory.
+    #[inline(never)]
     #[tactic(auto, unfolding(crate::specs::Statements::statement_finding))]
     pub fn declare_scalar(
         &mut self,
@@ -225,6 +228,7 @@ impl<'a, 'n> BodyScope<'a, 'n> {
     ///
     /// 301, 303, 305 and 403 in its label, 302 where its name is in scope already, then 703 where its length is not 1 to 65,536; or
     /// out of memory.
+    #[inline(never)]
     #[tactic(auto, unfolding(crate::specs::Statements::statement_finding))]
     pub fn declare_array(
         &mut self,
@@ -256,6 +260,7 @@ impl<'a, 'n> BodyScope<'a, 'n> {
     ///
     /// 301 and 403 where a name stands for nothing or for something of another sort, 401 where a type is wrong, 402 where a call
     /// has another number of arguments than its procedure has parameters; or out of memory.
+    #[inline(never)]
     #[tactic(auto, unfolding(crate::specs::Statements::statement_finding))]
     pub fn resolve_assign(
         &self,
@@ -276,6 +281,7 @@ impl<'a, 'n> BodyScope<'a, 'n> {
     ///
     /// 301 and 403 where a name stands for nothing or for something of another sort, 401 where the index is no int, where the
     /// value has another type than the elements, or where a type within them is wrong; or out of memory.
+    #[inline(never)]
     #[tactic(auto, unfolding(crate::specs::Statements::statement_finding))]
     pub fn resolve_store(
         &self,
@@ -300,6 +306,7 @@ impl<'a, 'n> BodyScope<'a, 'n> {
     ///
     /// 301 and 403 where a name stands for nothing or for something of another sort, 402 where there are more or fewer arguments
     /// than parameters, 401 where the type of an argument is wrong; or out of memory.
+    #[inline(never)]
     #[tactic(auto, unfolding(crate::specs::Statements::statement_finding))]
     pub fn resolve_call_statement(&self, call: &Call<'_>) -> Result<Statement, TypeFault>
         ensures { Resolves (at_point self.now statement_of) result
@@ -315,6 +322,7 @@ impl<'a, 'n> BodyScope<'a, 'n> {
     /// # Errors
     ///
     /// 301 where the name of the channel stands for nothing, 403 where it stands for something else than an input.
+    #[inline(never)]
     #[tactic(auto, unfolding(crate::specs::Statements::statement_finding))]
     pub fn resolve_receive(&self, at: usize, channel: &Name<'_>) -> Result<Statement, TypeFault>
         ensures { Resolves (at_point self.now statement_of) result
@@ -331,6 +339,7 @@ impl<'a, 'n> BodyScope<'a, 'n> {
     ///
     /// 301 and 403 where a name stands for nothing or for something of another sort, 401 where the value is no int or a type
     /// within it is wrong; or out of memory.
+    #[inline(never)]
     #[tactic(auto, unfolding(crate::specs::Statements::statement_finding))]
     pub fn resolve_send(
         &self,
@@ -351,6 +360,7 @@ impl<'a, 'n> BodyScope<'a, 'n> {
     /// # Errors
     ///
     /// 301 where its name stands for nothing, 403 where it stands for something else than an exception.
+    #[inline(never)]
     #[tactic(auto, unfolding(crate::specs::Statements::statement_finding))]
     pub fn resolve_throw(&self, at: usize, name: &Name<'_>) -> Result<Statement, TypeFault>
         ensures { Resolves (at_point self.now statement_of) result
@@ -367,6 +377,7 @@ impl<'a, 'n> BodyScope<'a, 'n> {
     ///
     /// 301, 401 and 403 in the value; then 401 where a value is missing, is not to be given, or has another type than the
     /// procedure gives; or out of memory.
+    #[inline(never)]
     #[tactic(auto, unfolding(crate::specs::Statements::return_finding))]
     pub fn resolve_return(
         &self,

@@ -1,6 +1,6 @@
 -- Where the instructions of code begin, as a bit for each byte, and how many begin before each word of bits.
 -- Source: our own; a bit vector with counts, as it is used for rank queries.
-use Rattle.std.specs.Prelude.{◌≡◌, ℕ, zero, suc, ◌+◌, ◌*◌, ◌/◌, ◌<◌, ◌≤◌, ◌^◌, false, if◌then◌else◌, List, [], ◌∷◌, length, slice_index_or, Option, Some, None}
+use Rattle.std.specs.Prelude.{◌≡◌, ℕ, zero, suc, ◌*◌, ◌/◌, ◌<◌, ◌≤◌, ◌^◌, false, if◌then◌else◌, List, [], ◌∷◌, length, slice_index_or, Option, Some, None}
 use Rattle.labels.specs.Words.{has_bit}
 use Rattle.modules.specs.Code.{code_length}
 use Rattle.modules.specs.declared.instruction.Instruction.{Instruction}
@@ -23,7 +23,7 @@ numbers_of starts from (suc count) = number_at starts from ∷ numbers_of starts
 
 -- the bits of code, where no other one is set
 pub record AreCodeStarts (code : List Instruction) (starts : List ℕ) : Type 0 where
-  pub enough : length starts ≡ code_length code / 64 + 1
+  pub enough : code_length code / 64 < length starts
   pub numbers : numbers_of starts 0 (code_length code) ≡ index_of code
   pub clear : (at : ℕ) → code_length code ≤ at → has_bit starts at ≡ false
 
@@ -35,5 +35,5 @@ pub record HasCounts (starts counts : List ℕ) : Type 0 where
 -- the bits of fewer than 2^32 bytes, and their counts
 pub record IsStoredIndex (inside : Inside) : Type 0 where
   pub short : inside.size < 2 ^ 32
-  pub enough : length inside.starts.items ≡ inside.size / 64 + 1
+  pub enough : inside.size / 64 < length inside.starts.items
   pub counts : HasCounts inside.starts.items inside.counts.items

@@ -88,7 +88,7 @@ impl PackedModule {
     pub(crate) fn new(alloc: Global, program: Module) -> Result<PackedModule, AllocError>
         ensures { IfOk result (λ packed. packed ≡ program) }
     {
-        let mut parameters = Vec::new(alloc);
+        let mut parameters = Vec::with_capacity(alloc, program.procedures().len())?;
         for procedure in program.procedures() {
             parameters.push(Parameters::of(alloc, procedure)?)?;
         }

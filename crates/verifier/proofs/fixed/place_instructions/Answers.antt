@@ -1,18 +1,20 @@
-use Rattle.std.proofs.Common.{arith, ap, sym, ◌∙◌, drop, take, ◌+◌, pos, map, List, ◌++◌, ◌∷◌, []}
-use Rattle.std.proofs.lemmas.List.{map_more}
+use Rattle.std.proofs.Common.{arith, ap, sym, ◌∙◌, ◌+◌, drop, take, pos, map}
 use Rattle.modules.specs.Targets.{renamed_instruction}
-use Rattle.modules.specs.declared.instruction.Instruction.{Instruction}
 use Rattle.verifier.specs.Positions.{position_of}
 use Rattle.modules.specs.Code.{code_length}
 use Rattle.modules.specs.declared.instruction.Instruction.TheVariants.{Push}
 use Rattle.verifier.specs.Fixed.{instruction_refusals}
 use Rattle.verifier.proofs.FixedRefusals.{instructions_on}
+use Rattle.verifier.proofs.Positioned.{all_renamed, one_more}
 use Rattle.modules.proofs.Widths.{code_length_more}
 use Rattle.verifier.proofs.Offsets.{code_length_within}
 use Rattle.verifier.proofs.fixed.place_instructions.Goals as goal
 
 pub overflow_cast-offset : goal.overflow_cast-offset
 overflow_cast-offset c = omega (arith, code_length_within c.code-code.result.now c.loop-number.number (Push (pos 0)) c.loop-number-test.true, c.code_length-offset.ensures, ap code_length c.code-code.ensures, c.requires.short)
+
+pub put-requires : goal.put-requires
+put-requires c = omega (arith, c.loop-number.invariant.count, c.loop-number-test.true)
 
 pub loop-number-preserved : goal.loop-number-preserved
 loop-number-preserved c =
@@ -21,16 +23,16 @@ loop-number-preserved c =
     let p = c.args.body.now.procedure.now in
     let n = c.loop-number.number in
     let v = c.loop-number.invariant in
-    let renamed = renamed_instruction (position_of p.code) in
     record {
       left =
           ap (λ w. instruction_refusals m c.args.procedure p w (drop (n + 1) code)) (code_length_more code n (Push (pos 0)) c.loop-number-test.true)
           ∙ sym (instructions_on m c.args.procedure p (code_length (take n code)) code n (Push (pos 0)) c.loop-number-test.true c.in-Ok.ensures.right)
           ∙ v.left;
-      so_far =
-          c.push_reserved.ensures.items ∙ ap (λ (l : List Instruction). l ++ c.in-Ok.instruction ∷ []) v.so_far
-          ∙ ap (λ (i : Instruction). map renamed (take n code) ++ i ∷ []) c.in-Ok.ensures.placed
-          ∙ sym (map_more renamed code n (Push (pos 0)) c.loop-number-test.true);
-      count = omega (arith, c.push_reserved.ensures.len, v.count);
-      room = omega (arith, c.push_reserved.ensures.capacity, v.room);
+      so_far = one_more (renamed_instruction (position_of p.code)) code c.loop-number.placed.items _ n (Push (pos 0)) c.in-Ok.instruction c.loop-number-test.true c.in-Ok.ensures.placed v.so_far c.put.ensures.stays c.put.ensures.changed;
+      count = c.put.ensures.count ∙ v.count;
     }
+
+pub returns-clause-placed : goal.returns-clause-placed
+returns-clause-placed c =
+    let renamed = renamed_instruction (position_of c.args.body.now.procedure.now.code) in
+    c.loop-number.invariant.so_far ∙ all_renamed renamed c.code-code.result.now c.loop-number.number (omega (arith, c.loop-number-test.false)) ∙ ap (map renamed) c.code-code.ensures

@@ -6,10 +6,10 @@ use Rattle.labels.specs.Words.{has_bit, word}
 use Rattle.labels.proofs.WordBits.{bit-zeros, set-bit}
 use Rattle.modules.specs.Code.{code_length, width_of}
 use Rattle.modules.specs.declared.instruction.Instruction.TheVariants.{Push}
-use Rattle.modules.proofs.Widths.{code_length_more, width_of-pos}
+use Rattle.modules.proofs.Widths.{code_length_more, code_length_most, width_of-pos}
 use Rattle.verifier.specs.Index.{index_from}
 use Rattle.verifier.specs.Starts.{numbers_of, starts_before}
-use Rattle.verifier.proofs.Offsets.{code_length_within, code_length_drop}
+use Rattle.verifier.proofs.Offsets.{code_length_within, code_length_drop, code_length_least}
 use Rattle.verifier.proofs.Counted.{clear-after, no-numbers, number-added, one-more-before}
 use Rattle.verifier.proofs.Indices.{indices_step}
 use Rattle.verifier.proofs.Reaching.{take_all}
@@ -17,28 +17,29 @@ use Rattle.verifier.proofs.index.starts_of.Goals as goal
 
 pub loop-instruction-init : goal.loop-instruction-init
 loop-instruction-init c =
-    let n = c.args.size / 64 + 1 in
+    let n = length c.args.code.now * 5 / 64 + 1 in
+    let size = code_length c.args.code.now in
     let is : c.in_ok-starts.starts.items ≡ replicate n 0 = search rules in
     record {
       offset_is = refl;
       enough = ap length is ∙ length-replicate n 0;
       count_is = refl;
-      numbers_are = ap (λ l. numbers_of l 0 c.args.size) is ∙ no-numbers (replicate n 0) 0 c.args.size (bit-zeros n) ∙ ap (λ k. replicate k None) c.requires;
+      numbers_are = ap (λ l. numbers_of l 0 size) is ∙ no-numbers (replicate n 0) 0 size (bit-zeros n);
       clear = λ at ge. ap (λ l. has_bit l at) is ∙ bit-zeros n at;
     }
 
-inside : (size at : ℕ) → at < size → at / 64 < size / 64 + 1
-inside size at h = omega (arith, h)
+pub overflow_mul-code : goal.overflow_mul-code
+overflow_mul-code c = omega (arith, c.requires, code_length_least c.args.code.now)
 
 pub index_mut-requires : goal.index_mut-requires
 index_mut-requires c =
     let code = c.args.code.now in
     let k = c.loop-instruction.instruction-index in
     let v = c.loop-instruction.invariant in
-    omega (arith, v.enough, v.offset_is, c.requires, code_length_within code k (Push (pos 0)) c.loop-instruction-test.true)
+    omega (arith, v.enough, v.offset_is, code_length_most code, width_of-pos (get_or code k (Push (pos 0))), code_length_within code k (Push (pos 0)) c.loop-instruction-test.true)
 
 pub overflow_add-offset : goal.overflow_add-offset
-overflow_add-offset c = omega (arith, c.requires, c.ranges.size.fits, c.width-offset.ensures, code_length_within c.args.code.now c.loop-instruction.instruction-index (Push (pos 0)) c.loop-instruction-test.true, c.loop-instruction.invariant.offset_is)
+overflow_add-offset c = omega (arith, c.requires, c.width-offset.ensures, code_length_within c.args.code.now c.loop-instruction.instruction-index (Push (pos 0)) c.loop-instruction-test.true, c.loop-instruction.invariant.offset_is)
 
 pub loop-instruction-preserved : goal.loop-instruction-preserved
 loop-instruction-preserved c =
@@ -49,12 +50,12 @@ loop-instruction-preserved c =
     let v = c.loop-instruction.invariant in
     let old = c.loop-instruction.starts.items in
     let at = c.loop-instruction.offset in
-    let size = c.args.size in
+    let size = code_length code in
     let w = c.index_mut.result.now in
     let new = set old (at / 64) (bit_or w (1 * 2 ^ (at % 64) % 2 ^ 64)) in
     let wide = width_of-pos i in
-    let under : at < size = omega (arith, v.offset_is, c.requires, code_length_within code k (Push (pos 0)) h, wide) in
-    let there : at / 64 < length old = omega (arith, v.enough, under) in
+    let under : at < size = omega (arith, v.offset_is, code_length_within code k (Push (pos 0)) h, wide) in
+    let there : at / 64 < length old = omega (arith, v.enough, under, code_length_most code) in
     let is : w ≡ word old (at / 64) = get_or_read old (at / 64) w there c.index_mut.ensures.value 0 in
     let added : (n : ℕ) → has_bit new n ≡ (n == at || has_bit old n) = λ n. set-bit old at w n there is in
     let back : at + c.width-offset.result ≡ suc at + (width_of i - 1) = omega (arith, c.width-offset.ensures, wide) in
@@ -72,20 +73,23 @@ loop-instruction-preserved c =
       clear = λ n ge. clear-after old new at added v.clear n (omega (arith, ge, back));
     }
 
-pub returns : goal.returns
-returns c =
+pub returns-clause-starts : goal.returns-clause-starts
+returns-clause-starts c =
     let code = c.args.code.now in
     let k = c.loop-instruction.instruction-index in
     let v = c.loop-instruction.invariant in
     let none : code_length (drop k code) ≡ 0 = ap code_length (drop_all k code c.loop-instruction-test.false) in
     let all : take k code ≡ code = take_all code k c.loop-instruction-test.false in
     record {
-      enough = v.enough ∙ ap (λ n. n / 64 + 1) c.requires;
+      enough = omega (arith, v.enough, code_length_most code);
       numbers =
-          ap (numbers_of c.loop-instruction.starts.items 0) (sym c.requires)
-          ∙ v.numbers_are
+          v.numbers_are
           ∙ ap (λ n. index_from 0 (take k code) ++ replicate n None) none
           ∙ append-nil (index_from 0 (take k code))
           ∙ ap (index_from 0) all;
       clear = λ at ge. v.clear at (omega (arith, ge, v.offset_is, ap code_length all));
     }
+
+pub returns-clause-size : goal.returns-clause-size
+returns-clause-size c =
+    c.loop-instruction.invariant.offset_is ∙ ap code_length (take_all c.args.code.now c.loop-instruction.instruction-index c.loop-instruction-test.false)

@@ -25,7 +25,7 @@ is-set starts at w is some =
     rw bit refl
 
 -- the count of a word and that of its lower bits
-sum : (starts counts : List ℕ) (size at w n : ℕ) → HasCounts starts counts → length starts ≡ size / 64 + 1 → at < size → w ≡ word starts (at / 64) → n ≡ get_or counts (at / 64) 0 →
+sum : (starts counts : List ℕ) (size at w n : ℕ) → HasCounts starts counts → size / 64 < length starts → at < size → w ≡ word starts (at / 64) → n ≡ get_or counts (at / 64) 0 →
     n + count_ones (bit_and w (1 * 2 ^ (at % 64) % 2 ^ 64 - 1)) ≡ starts_before starts at
 sum starts counts size at w n has enough under is count =
     let there : at / 64 < length starts = omega (arith, enough, under) in
