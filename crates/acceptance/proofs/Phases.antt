@@ -21,24 +21,22 @@ use Rattle.principals.specs.declared.fault.HierarchyRefusalKind.{HierarchyRefusa
 use Rattle.principals.specs.Laws.{HasOneHierarchy, IsReadOrRefused, IsNotReadAndRefused, HierarchiesHaveOneRefusal}
 use Rattle.syntax.specs.Grammar.{SpellsProgram}
 use Rattle.syntax.specs.Tree.{ProgramTree}
-use Rattle.labels.specs.Label.{ReaderPolicy}
 use Rattle.resolved.specs.Program.{Program}
 use Rattle.resolved.specs.ExitFaults.{exit_faults}
 use Rattle.resolved.specs.declared.fault.ExitRefusalKind.{ExitRefusalKind}
 use Rattle.resolved.specs.Labelled.{Demand, Labelled}
-use Rattle.resolved.specs.Flow as flow
-use Rattle.resolved.proofs.Flow.{labelled-or_refused, chain-refuses}
+use Rattle.resolved.proofs.Flow.{labelled-or_refused}
 use Rattle.types.specs.Finding.{Finding}
 use Rattle.types.specs.declared.fault.TypeRefusalKind.{TypeRefusalKind}
 use Rattle.types.specs.Resolution.{resolution}
 use Rattle.acceptance.specs.Accepted.{IsText, IsTreeOf, IsResolvedFrom, IsAccepted, HasHierarchy, StandFor}
-use Rattle.acceptance.specs.Refused.{IsNoText, TooLong, NotUtf8, IsHierarchyRefused, Unreadable, Wrong, IsSourceRefused, NoText, NoTokens, NoTree, WrongName, WrongEnd, WrongFlow, AreTextsRefusedAt, Hierarchy, Source}
+use Rattle.acceptance.specs.Refused.{IsFirstUnmet, IsNoText, TooLong, NotUtf8, IsHierarchyRefused, Unreadable, Wrong, IsSourceRefused, NoText, NoTokens, NoTree, WrongName, WrongEnd, WrongFlow, AreTextsRefusedAt, Hierarchy, Source}
 use Rattle.acceptance.specs.Laws.{Verdict, Accepted, Refused, IsVerdict, HasVerdict, HasOneVerdict}
 use Rattle.acceptance.specs.declared.kind.RefusalKind.{RefusalKind}
 use Rattle.acceptance.specs.declared.kind.RefusalKind.TheVariants as kinds
 use Rattle.acceptance.specs.declared.kind.Text.{Text}
 use Rattle.acceptance.specs.declared.kind.Text.TheVariants as texts
-use Rattle.acceptance.proofs.Demands.{one_last}
+use Rattle.acceptance.proofs.Demands.{first-unmet, one_last, unmet-not_labelled}
 use Rattle.common.specs.declared.limits.TheConstants.{MAX_TEXT}
 
 -- two kinds of refusal at two bytes are the same
@@ -104,10 +102,8 @@ module _ (h : PrincipalHierarchy) (source : List ℕ) where
   ended_refused program other refusal faults same e f =
       let both : refusal ∷ faults ≡ [] = sym e ∙ (ap exit_faults same ∙ f) in cc
 
-  same_flow : (program other : Program) (policy other_policy : ReaderPolicy) (chain others : List Demand) (last again : Demand) → program ≡ other →
-      flow.IsProgramRefused program policy chain last → flow.IsProgramRefused other other_policy others again → last ≡ again
-  same_flow program other policy other_policy chain others last again same one two =
-      one_last other policy other_policy chain others last again (subst (λ p. flow.IsProgramRefused p policy chain last) same one) two
+  same_flow : (program other : Program) (last again : Demand) → program ≡ other → IsFirstUnmet program last → IsFirstUnmet other again → last ≡ again
+  same_flow program other last again same one two = one_last other last again (subst (λ p. IsFirstUnmet p last) same one) two
 
   -- what an earlier phase refuses does not come to a later one
   lexed_later : (refusal : RefusalAt LexRefusalKind) → lexer.IsTextRefused source refusal → (tree : ProgramTree) → IsTreeOf source tree → ⊥
@@ -119,7 +115,7 @@ module _ (h : PrincipalHierarchy) (source : List ℕ) where
   source_once kind other at there (NoText _ _ one) (NoTree text _ _ _ _) = absurd (text_or_none source kind at one text)
   source_once kind _ at _ (NoText _ _ one) (WrongName tree of refusal e) = absurd (text_or_none source kind at one of.text)
   source_once kind _ at _ (NoText _ _ one) (WrongEnd program from refusal others e) = absurd (text_or_none source kind at one from.tree_of.text)
-  source_once kind _ at _ (NoText _ _ one) (WrongFlow program from ended policy chain last refused) = absurd (text_or_none source kind at one from.tree_of.text)
+  source_once kind _ at _ (NoText _ _ one) (WrongFlow program from ended last refused) = absurd (text_or_none source kind at one from.tree_of.text)
   source_once kind other at there (NoTokens text _ _) (NoText _ _ two) = absurd (text_or_none source other there two text)
   source_once _ _ _ _ (NoTokens _ refusal refused) (NoTokens _ again refused_too) =
       let same : refusal ≡ again = has_one_refusal source refusal again refused refused_too in
@@ -127,7 +123,7 @@ module _ (h : PrincipalHierarchy) (source : List ℕ) where
   source_once kind other at there (NoTokens _ refusal refused) (NoTree _ tokens cut _ _) = absurd (cut_refused source tokens refusal cut refused)
   source_once kind _ at _ (NoTokens _ refusal refused) (WrongName tree of wrong e) = absurd (lexed_later refusal refused tree of)
   source_once kind _ at _ (NoTokens _ refusal refused) (WrongEnd program from wrong others e) = absurd (lexed_later refusal refused from.tree from.tree_of)
-  source_once kind _ at _ (NoTokens _ refusal refused) (WrongFlow program from ended policy chain last unmet) = absurd (lexed_later refusal refused from.tree from.tree_of)
+  source_once kind _ at _ (NoTokens _ refusal refused) (WrongFlow program from ended last unmet) = absurd (lexed_later refusal refused from.tree from.tree_of)
   source_once kind other at there (NoTree text _ _ _ _) (NoText _ _ two) = absurd (text_or_none source other there two text)
   source_once kind other at there (NoTree _ tokens cut _ _) (NoTokens _ refusal refused) = absurd (cut_refused source tokens refusal cut refused)
   source_once _ _ _ _ (NoTree _ tokens cut refusal refused) (NoTree _ others cut_too again refused_too) =
@@ -136,7 +132,7 @@ module _ (h : PrincipalHierarchy) (source : List ℕ) where
       (ap (λ (r : RefusalAt ParseRefusalKind). kinds.Parse r.kind) same, ap (λ (r : RefusalAt ParseRefusalKind). r.at) same)
   source_once kind _ at _ (NoTree _ tokens cut refusal refused) (WrongName tree of wrong e) = absurd (tree_refused source tree tokens refusal of cut refused)
   source_once kind _ at _ (NoTree _ tokens cut refusal refused) (WrongEnd program from wrong others e) = absurd (tree_refused source from.tree tokens refusal from.tree_of cut refused)
-  source_once kind _ at _ (NoTree _ tokens cut refusal refused) (WrongFlow program from ended policy chain last unmet) = absurd (tree_refused source from.tree tokens refusal from.tree_of cut refused)
+  source_once kind _ at _ (NoTree _ tokens cut refusal refused) (WrongFlow program from ended last unmet) = absurd (tree_refused source from.tree tokens refusal from.tree_of cut refused)
   source_once _ other _ there (WrongName tree of wrong e) (NoText _ _ two) = absurd (text_or_none source other there two of.text)
   source_once _ other _ there (WrongName tree of wrong e) (NoTokens _ refusal refused) = absurd (lexed_later refusal refused tree of)
   source_once _ other _ there (WrongName tree of wrong e) (NoTree _ tokens cut refusal refused) = absurd (tree_refused source tree tokens refusal of cut refused)
@@ -144,7 +140,7 @@ module _ (h : PrincipalHierarchy) (source : List ℕ) where
       let same : wrong ≡ again = same_refusal tree other wrong again of of_too e f in
       (ap (λ (refusal : RefusalAt TypeRefusalKind). kinds.Name refusal.kind) same, ap (λ (refusal : RefusalAt TypeRefusalKind). refusal.at) same)
   source_once _ _ _ _ (WrongName tree of wrong e) (WrongEnd program from refusal others f) = absurd (named_refused tree wrong program of e from)
-  source_once _ _ _ _ (WrongName tree of wrong e) (WrongFlow program from ended policy chain last unmet) = absurd (named_refused tree wrong program of e from)
+  source_once _ _ _ _ (WrongName tree of wrong e) (WrongFlow program from ended last unmet) = absurd (named_refused tree wrong program of e from)
   source_once _ other _ there (WrongEnd program from wrong others e) (NoText _ _ two) = absurd (text_or_none source other there two from.tree_of.text)
   source_once _ other _ there (WrongEnd program from wrong others e) (NoTokens _ refusal refused) = absurd (lexed_later refusal refused from.tree from.tree_of)
   source_once _ other _ there (WrongEnd program from wrong others e) (NoTree _ tokens cut refusal refused) = absurd (tree_refused source from.tree tokens refusal from.tree_of cut refused)
@@ -152,16 +148,16 @@ module _ (h : PrincipalHierarchy) (source : List ℕ) where
   source_once _ _ _ _ (WrongEnd program from wrong others e) (WrongEnd other from_too again more f) =
       let same : wrong ≡ again = agreed_exit program other wrong again others more (same_program program other from from_too) e f in
       (ap (λ (refusal : RefusalAt ExitRefusalKind). kinds.End refusal.kind) same, ap (λ (refusal : RefusalAt ExitRefusalKind). refusal.at) same)
-  source_once _ _ _ _ (WrongEnd program from wrong others e) (WrongFlow other from_too ended policy chain last unmet) =
+  source_once _ _ _ _ (WrongEnd program from wrong others e) (WrongFlow other from_too ended last unmet) =
       absurd (ended_refused program other wrong others (same_program program other from from_too) e ended)
-  source_once _ other _ there (WrongFlow program from ended policy chain last unmet) (NoText _ _ two) = absurd (text_or_none source other there two from.tree_of.text)
-  source_once _ other _ there (WrongFlow program from ended policy chain last unmet) (NoTokens _ refusal refused) = absurd (lexed_later refusal refused from.tree from.tree_of)
-  source_once _ other _ there (WrongFlow program from ended policy chain last unmet) (NoTree _ tokens cut refusal refused) = absurd (tree_refused source from.tree tokens refusal from.tree_of cut refused)
-  source_once _ _ _ _ (WrongFlow program from ended policy chain last unmet) (WrongName tree of refusal f) = absurd (named_refused tree refusal program of f from)
-  source_once _ _ _ _ (WrongFlow program from ended policy chain last unmet) (WrongEnd other from_too again more f) =
+  source_once _ other _ there (WrongFlow program from ended last unmet) (NoText _ _ two) = absurd (text_or_none source other there two from.tree_of.text)
+  source_once _ other _ there (WrongFlow program from ended last unmet) (NoTokens _ refusal refused) = absurd (lexed_later refusal refused from.tree from.tree_of)
+  source_once _ other _ there (WrongFlow program from ended last unmet) (NoTree _ tokens cut refusal refused) = absurd (tree_refused source from.tree tokens refusal from.tree_of cut refused)
+  source_once _ _ _ _ (WrongFlow program from ended last unmet) (WrongName tree of refusal f) = absurd (named_refused tree refusal program of f from)
+  source_once _ _ _ _ (WrongFlow program from ended last unmet) (WrongEnd other from_too again more f) =
       absurd (ended_refused other program again more (same_program other program from_too from) f ended)
-  source_once _ _ _ _ (WrongFlow program from ended policy chain last unmet) (WrongFlow other from_too ended_too other_policy others again unmet_too) =
-      (refl, ap (λ (d : Demand). d.at) (same_flow program other policy other_policy chain others last again (same_program program other from from_too) unmet unmet_too))
+  source_once _ _ _ _ (WrongFlow program from ended last unmet) (WrongFlow other from_too ended_too again unmet_too) =
+      (refl, ap (λ (d : Demand). d.at) (same_flow program other last again (same_program program other from from_too) unmet unmet_too))
 
   -- an accepted source is not refused
   pub accepted_refused : (program : Program) (kind : RefusalKind) (at : ℕ) → IsAccepted h source program → IsSourceRefused h source kind at → ⊥
@@ -171,8 +167,8 @@ module _ (h : PrincipalHierarchy) (source : List ℕ) where
   accepted_refused program _ _ accepted (WrongName tree of wrong e) = named_refused tree wrong program of e accepted.resolved
   accepted_refused program _ _ accepted (WrongEnd other from wrong others e) =
       ended_refused other program wrong others (same_program other program from accepted.resolved) e accepted.ended
-  accepted_refused program _ _ accepted (WrongFlow other from ended policy chain last unmet) =
-      chain-refuses other policy chain last unmet.chained (subst Labelled (same_program program other accepted.resolved from) accepted.labelled)
+  accepted_refused program _ _ accepted (WrongFlow other from ended last unmet) =
+      unmet-not_labelled other last unmet (subst Labelled (same_program program other accepted.resolved from) accepted.labelled)
 
   -- ---- each phase lets the source pass or refuses it
 
@@ -187,7 +183,7 @@ module _ (h : PrincipalHierarchy) (source : List ℕ) where
       by_exits [] e =
           ⊎_elim
           (λ labelled. inl (program, record { resolved = from; ended = e; labelled = labelled }))
-          (λ unmet. inr (kinds.FlowNotAllowed, unmet.2.at, WrongFlow program from e unmet.0 unmet.1 unmet.2 unmet.3))
+          (λ unmet. inr (kinds.FlowNotAllowed, unmet.2.at, WrongFlow program from e unmet.2 (first-unmet program unmet.0 unmet.1 unmet.2 unmet.3)))
           (labelled-or_refused program)
 
   named : (tree : ProgramTree) → IsTreeOf source tree → ((found : Program) × IsAccepted h source found) ⊎ Refusal

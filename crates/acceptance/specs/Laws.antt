@@ -1,13 +1,16 @@
 -- The law of verdicts: two texts stand for one program, or one of them is refused for one reason at one byte, and not both. And laws
 -- of the programs that sources are resolved to.
 -- Source: our own.
-use Rattle.std.specs.Prelude.{◌≡◌, ℕ, List, All}
+use Rattle.std.specs.Prelude.{◌≡◌, ◌↔◌, ℕ, List, All}
 use Rattle.principals.specs.ActsFor.{PrincipalHierarchy, IsHierarchy}
 use Rattle.principals.specs.Named.{IsKeptName}
+use Rattle.labels.specs.Label.{ReaderPolicy}
+use Rattle.resolved.specs.Flow.{IsProgramRefused}
+use Rattle.resolved.specs.Labelled.{Demand}
 use Rattle.resolved.specs.Names.{HasNames}
 use Rattle.resolved.specs.Program.{Program}
 use Rattle.acceptance.specs.Accepted.{IsResolvedFrom, StandFor}
-use Rattle.acceptance.specs.Refused.{AreTextsRefusedAt}
+use Rattle.acceptance.specs.Refused.{AreTextsRefusedAt, IsFirstUnmet}
 use Rattle.acceptance.specs.declared.kind.RefusalKind.{RefusalKind}
 use Rattle.acceptance.specs.declared.kind.Text.{Text}
 
@@ -27,6 +30,13 @@ abbrev pub HasOneVerdict : Type 0
 HasOneVerdict =
     (hierarchy source : List ℕ) (verdict other : Verdict) → IsVerdict hierarchy source verdict → IsVerdict hierarchy source other
     → verdict ≡ other
+
+-- the first demand that cannot be met is the first with a written right side that does not hold under least labels, and a flow chain
+-- ends there
+abbrev pub UnmetDemandsEndChains : Type 0
+UnmetDemandsEndChains =
+    (program : Program) (last : Demand)
+    → IsFirstUnmet program last ↔ ((policy : ReaderPolicy) × (chain : List Demand) × IsProgramRefused program policy chain last)
 
 -- ---- the programs that sources are resolved to
 

@@ -1,7 +1,7 @@
 -- Why the first of two texts that is wrong is refused, and the byte at which that stands: one clause for each reason. Each phase looks
 -- at what the ones before it let pass.
 -- Source: our own.
-use Rattle.std.specs.Prelude.{◌≡◌, ℕ, ◌≤◌, ◌<◌, List, [], ◌∷◌, length, IsTrue, Err}
+use Rattle.std.specs.Prelude.{◌≡◌, ℕ, ◌≤◌, ◌<◌, List, [], ◌∷◌, ◌++◌, length, IsTrue, Err}
 use Rattle.std.specs.Str.{is_utf8}
 use Rattle.lexer.specs.Cut.{IsCut}
 use Rattle.lexer.specs.Cut as lexer
@@ -14,12 +14,13 @@ use Rattle.principals.specs.ActsFor.{PrincipalHierarchy}
 use Rattle.principals.specs.HierarchyText.{IsRefusedText}
 use Rattle.principals.specs.declared.fault.HierarchyRefusalKind.{HierarchyRefusalKind}
 use Rattle.syntax.specs.Tree.{ProgramTree}
-use Rattle.labels.specs.Label.{ReaderPolicy}
+use Rattle.lattices.specs.Constraints.{FitsAll, FitsUnknowns}
+use Rattle.labels.specs.Label.{Label}
+use Rattle.labels.specs.LabelLattice.{label_lattice}
 use Rattle.resolved.specs.Program.{Program}
 use Rattle.resolved.specs.ExitFaults.{exit_faults}
 use Rattle.resolved.specs.declared.fault.ExitRefusalKind.{ExitRefusalKind}
-use Rattle.resolved.specs.Labelled.{Demand}
-use Rattle.resolved.specs.Flow as flow
+use Rattle.resolved.specs.Labelled.{Unwritten, Demand, program_demands}
 use Rattle.types.specs.Resolution.{resolution}
 use Rattle.types.specs.declared.fault.TypeRefusalKind.{TypeRefusalKind}
 use Rattle.acceptance.specs.Accepted.{IsText, IsTreeOf, IsResolvedFrom, HasHierarchy}
@@ -40,8 +41,23 @@ pub data IsHierarchyRefused (text : List ℕ) : RefusalKind → (at : ℕ) → T
   Wrong : IsText text → (refusal : RefusalAt HierarchyRefusalKind) → IsRefusedText text refusal
       → IsHierarchyRefused text (kinds.Hierarchy refusal.kind) refusal.at
 
+-- demands of a program can be met: some labels meet them, and each demand of the program whose right side is not written
+pub record CanMeet (program : Program) (demands : List Demand) : Type 0 where
+  pub labels : Unwritten → Label
+  pub fit : FitsUnknowns (label_lattice program.hierarchy) (program_demands program) labels
+  pub meet : FitsAll (label_lattice program.hierarchy) demands labels
+
+-- the first demand of a program that cannot be met: those before it can, and with it they cannot. It is the first that does not hold
+-- under least labels, and a flow chain ends there
+pub record IsFirstUnmet (program : Program) (last : Demand) : Type 0 where
+  pub before : List Demand
+  pub after : List Demand
+  pub demands_are : program_demands program ≡ before ++ last ∷ after
+  pub goes_on : CanMeet program before
+  pub stops : ¬ CanMeet program (before ++ last ∷ [])
+
 -- why a source is refused under a hierarchy: the first fault of its tokens, of its tree, of names, types and sizes, or of the exits,
--- or the first demand that no labelling meets
+-- or the first demand that cannot be met
 pub data IsSourceRefused (h : PrincipalHierarchy) (source : List ℕ) : RefusalKind → (at : ℕ) → Type 0 where
   NoText : (kind : RefusalKind) (at : ℕ) → IsNoText source kind at → IsSourceRefused h source kind at
   NoTokens : IsText source → (refusal : RefusalAt LexRefusalKind) → lexer.IsTextRefused source refusal
@@ -52,9 +68,8 @@ pub data IsSourceRefused (h : PrincipalHierarchy) (source : List ℕ) : RefusalK
       → IsSourceRefused h source (kinds.Name refusal.kind) refusal.at
   WrongEnd : (program : Program) → IsResolvedFrom h source program → (refusal : RefusalAt ExitRefusalKind) (others : List (RefusalAt ExitRefusalKind))
       → exit_faults program ≡ refusal ∷ others → IsSourceRefused h source (kinds.End refusal.kind) refusal.at
-  WrongFlow : (program : Program) → IsResolvedFrom h source program → exit_faults program ≡ [] → (policy : ReaderPolicy)
-      (chain : List Demand) (last : Demand) → flow.IsProgramRefused program policy chain last
-      → IsSourceRefused h source kinds.FlowNotAllowed last.at
+  WrongFlow : (program : Program) → IsResolvedFrom h source program → exit_faults program ≡ [] → (last : Demand)
+      → IsFirstUnmet program last → IsSourceRefused h source kinds.FlowNotAllowed last.at
 
 -- the first of two texts that is wrong: the source is looked at where the other text has a hierarchy
 pub data AreTextsRefusedAt (hierarchy source : List ℕ) : Text → RefusalKind → (at : ℕ) → Type 0 where

@@ -1,7 +1,7 @@
 //! What a check has to decide, and what an accepted program promises, for all texts.
 
 ghost use Rattle.acceptance.specs.Accepted.{StandFor};
-ghost use Rattle.acceptance.specs.Laws.{GivesNames, HasOneVerdict, HasVerdict, KeepsHierarchy};
+ghost use Rattle.acceptance.specs.Laws.{GivesNames, HasOneVerdict, HasVerdict, KeepsHierarchy, UnmetDemandsEndChains};
 ghost use Rattle.resolved.specs.Isolated.{Isolated};
 ghost use Rattle.resolved.specs.Program.{Program};
 ghost use Rattle.std.specs.Prelude.{List, ℕ};
@@ -14,6 +14,12 @@ pub fn one_verdict()
 {
     principals::laws::one_reading();
 }
+
+/// The first demand of a program that cannot be met is the first with a written right side that does not hold under the least labels
+/// of its locals and loops, and a flow chain ends there, which leads from a policy of a written label.
+pub fn unmet_demands_end_chains()
+    ensures { UnmetDemandsEndChains }
+{}
 
 /// A program that a source is resolved to under a hierarchy has that hierarchy. Its exceptions and channels have different names in
 /// UTF-8 of at most 1 MiB, which are none of the built-in exceptions, and the labels of its channels are canonical; so where the

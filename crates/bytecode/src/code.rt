@@ -3,49 +3,39 @@
 ghost use Rattle.modules.specs.Code.{width_of};
 ghost use Rattle.modules.specs.ByteFormat.{Code, code_at, instruction_in, read};
 ghost use Rattle.modules.specs.Opcodes.{instructions};
-ghost use Rattle.bytecode.specs.Reading.{Decodes};
+ghost use Rattle.bytecode.specs.Reading.{Decodes, GoesOn, IsFirst, IsRest};
 ghost use Rattle.modules.specs.declared.version.Version.{Version};
-ghost use Rattle.std.specs.Prelude.{[], IfOk, IfSome, Ok, ℕ, ◌<◌, ◌≡◌, ◌≤◌};
+ghost use Rattle.std.specs.Prelude.{[], IfOk, IfSome, length, ◌+◌, ◌≡◌, ◌≤◌};
 
 use crate::reading::{FieldFault, give_back, make_room, read_byte, read_number, read_text, refuse};
 use modules::instruction::Instruction;
 use modules::opcode::{entry_of, instruction_of, numbered_instruction, width_after};
 use modules::{FormatRefusalKind, Version};
-use std::alloc::Global;
+use std::alloc::{AllocError, Global};
 
-/// The instruction with a number at the front, if there is one that ends within the room that is left in its code. Each version has it.
-fn read_numbered(room: u32, bytes: &[u8]) -> Option<(Instruction, &[u8])>
-    ensures gives { IfSome result (λ x. (version : Version) →
-        instruction_in (instructions version) room bytes.now ≡ Ok (x.0, x.1.now)) }
-    ensures inside { IfSome result (λ x. width_of x.0 ≤ room) }
+/// The instruction with a number that the first five bytes are, if they are one. Each version has it.
+#[inline(always)]
+fn read_numbered(bytes: &[u8]) -> Option<Instruction>
+    requires { 5 ≤ length bytes.now }
+    ensures gives { IfSome result (λ x. (version : Version) → IsFirst version 5 x bytes.now) }
+    ensures width { IfSome result (λ x. width_of x ≡ 5) }
 {
-    let [opcode, rest @ ..] = bytes else {
+    let Ok((number, _after)) = read_number(&bytes[1..]) else {
         return None;
     };
-    if room < 5 {
-        return None;
-    }
-    let Ok((number, after)) = read_number(rest) else {
-        return None;
-    };
-    match numbered_instruction(*opcode, number) {
-        Some(instruction) => Some((instruction, after)),
-        None => None,
-    }
+    numbered_instruction(bytes[0], number)
 }
 
-/// The instruction without an operand at the front, if there is one and the version has it.
-fn read_plain(version: Version, bytes: &[u8]) -> Option<(Instruction, &[u8])>
-    ensures gives { IfSome result (λ x. (room : ℕ) → 0 < room →
-        instruction_in (instructions version) room bytes.now ≡ Ok (x.0, x.1.now)) }
-    ensures inside { IfSome result (λ x. width_of x.0 ≡ 1) }
+/// The instruction without an operand that the first byte is, if it is one and the version has it.
+#[inline(always)]
+fn read_plain(version: Version, bytes: &[u8]) -> Option<Instruction>
+    requires { 1 ≤ length bytes.now }
+    ensures gives { IfSome result (λ x. IsFirst version 1 x bytes.now) }
+    ensures width { IfSome result (λ x. width_of x ≡ 1) }
 {
-    let [opcode, rest @ ..] = bytes else {
-        return None;
-    };
-    let instruction = instruction_of(*opcode, &[])?;
+    let instruction = instruction_of(bytes[0], &[])?;
     if version.has(entry_of(instruction).since) {
-        Some((instruction, rest))
+        Some(instruction)
     } else {
         None
     }
@@ -53,6 +43,7 @@ fn read_plain(version: Version, bytes: &[u8]) -> Option<(Instruction, &[u8])>
 
 /// The instruction of a version at the front, which ends within the room that is left in its code.
 #[tactic(auto, unfolding(modules::specs::Opcodes::instructions))]
+#[inline(never)]
 fn read_instruction(
     version: Version,
     room: u32,
@@ -86,6 +77,36 @@ fn room_at_first(size: u32, bytes: &[u8]) -> usize {
     }
 }
 
+/// Instructions at the front, while there are five bytes and they begin with one that has a number or no operand, after those
+/// that were read before; and the bytes after them. It is inlined, so that the list's end stays in a register.
+#[inline(always)]
+fn read_most<'a>(
+    version: Version,
+    code: &mut Vec<Instruction>,
+    bytes: &'a [u8],
+) -> Result<&'a [u8], AllocError>
+    ensures goes_on { IfOk result (λ rest. GoesOn version code.old.items code.new.items bytes.now
+        rest.now) }
+    ensures few { IfOk result (λ rest. length rest.now + length code.new.items
+        ≤ length bytes.now + length code.old.items) }
+    ensures rest { IfOk result (λ rest. IsRest bytes.now rest.now) }
+{
+    let mut front = bytes;
+    while front.len() >= 5 {
+        make_room(code)?;
+        if let Some(next) = read_numbered(front) {
+            code.push_reserved(next);
+            front = &front[5..];
+        } else if let Some(next) = read_plain(version, front) {
+            code.push_reserved(next);
+            front = &front[1..];
+        } else {
+            break;
+        }
+    }
+    Ok(front)
+}
+
 /// The instructions of a version that the next `size` bytes are. Room is made by the size only where as many bytes are there, and what
 /// is not taken in the end is given back. It is not inlined, so that the loop has all registers for itself.
 #[inline(never)]
@@ -101,21 +122,16 @@ fn read_instructions(
 {
     let mut code = Vec::with_capacity(alloc, room_at_first(size, bytes))?;
     let mut rest = bytes;
-    let mut room = size;
+    let mut room = size as usize;
     while room > 0 {
-        make_room(&mut code)?;
-        if let Some((next, after)) = read_numbered(room, rest) {
-            code.push_reserved(next);
-            room -= next.width() as u32;
-            rest = after;
-        } else if let Some((next, after)) = read_plain(version, rest) {
-            code.push_reserved(next);
-            room -= 1;
-            rest = after;
-        } else {
-            let (next, after) = read_instruction(version, room, rest)?;
-            code.push_reserved(next);
-            room -= next.width() as u32;
+        let front = &rest[..room.min(rest.len())];
+        let count = front.len() - read_most(version, &mut code, front)?.len();
+        room -= count;
+        rest = &rest[count..];
+        if room > 0 {
+            let (next, after) = read_instruction(version, room as u32, rest)?;
+            code.push(next)?;
+            room -= next.width();
             rest = after;
         }
     }

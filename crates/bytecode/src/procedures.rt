@@ -103,8 +103,9 @@ impl Element for SlotField {
     }
 }
 
-/// The slots after their count, the first of which are parameters.
+/// The slots after their count, the first of which are parameters. It is not inlined, so that the loop has all registers for itself.
 #[tactic(auto, unfolding(modules::specs::Format::slots))]
+#[inline(never)]
 fn read_slots(
     alloc: Global,
     parameters: u32,

@@ -188,19 +188,12 @@ impl Field for Handler {
     }
 }
 
-/// Writes an operand.
-fn put_operand(out: &mut Vec<u8>, operand: Operand) -> Result<(), AllocError>
-    ensures { OnOk result (out.new.items ≡ out.old.items ++ operand_bytes operand) }
+/// Writes a byte and a number in four more.
+fn put_numbered(out: &mut Vec<u8>, byte: u8, number: u32) -> Result<(), AllocError>
+    ensures { OnOk result (out.new.items ≡ out.old.items ++ byte ∷ number_bytes number) }
 {
-    match operand {
-        Operand::Absent => Ok(()),
-        Operand::Int(number) => put_number(out, number.cast_unsigned()),
-        Operand::Boolean(flag) => {
-            out.push(if flag { 1 } else { 0 })?;
-            Ok(())
-        }
-        Operand::Number(number) => put_number(out, number),
-    }
+    let [first, second, third, fourth] = number.to_be_bytes();
+    out.extend_from_slice(&[byte, first, second, third, fourth])
 }
 
 /// Writes an instruction.
@@ -208,6 +201,13 @@ pub(crate) fn put_instruction(out: &mut Vec<u8>, instruction: Instruction) -> Re
     ensures { OnOk result (out.new.items ≡ out.old.items ++ instruction_bytes instruction) }
 {
     let entry = entry_of(instruction);
-    out.push(entry.byte)?;
-    put_operand(out, entry.operand)
+    match entry.operand {
+        Operand::Absent => {
+            out.push(entry.byte)?;
+            Ok(())
+        }
+        Operand::Int(number) => put_numbered(out, entry.byte, number.cast_unsigned()),
+        Operand::Boolean(flag) => out.extend_from_slice(&[entry.byte, if flag { 1 } else { 0 }]),
+        Operand::Number(number) => put_numbered(out, entry.byte, number),
+    }
 }

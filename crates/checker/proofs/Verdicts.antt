@@ -10,6 +10,7 @@ use Rattle.acceptance.specs.Accepted.{IsAccepted, IsResolvedFrom}
 use Rattle.acceptance.specs.Refused.{IsSourceRefused, WrongFlow}
 use Rattle.acceptance.specs.declared.kind.RefusalKind.TheVariants as kinds
 use Rattle.acceptance.specs.declared.kind.Text.TheVariants as texts
+use Rattle.acceptance.proofs.Demands.{first-unmet}
 use Rattle.acceptance.proofs.Phases.{accepted_refused}
 use Rattle.checker.specs.Reported.{IsNotAccepted, IsSourceFault, refusal_at}
 use Rattle.checker.specs.Steps.{RefusesProgram}
@@ -46,6 +47,6 @@ module _ (h : PrincipalHierarchy) (source bytes : List ℕ) (core : Core) (flow 
     text_is = refl;
     at = flow.at;
     refused = subst (IsSourceRefused h source kinds.FlowNotAllowed) (sym refused.1.at_is)
-        (WrongFlow (program_of flow.core) resolved unended flow.policy refused.1.chain refused.1.last refused.1.refused);
+        (WrongFlow (program_of flow.core) resolved unended refused.1.last (first-unmet (program_of flow.core) flow.policy refused.1.chain refused.1.last refused.1.refused));
     place_of = rw same refl;
   }

@@ -16,6 +16,7 @@ use Rattle.lowering.specs.SameMeaning.{SameMeaning}
 use Rattle.lowering.proofs.Keeping.{layout-keeps}
 use Rattle.compiler.specs.Compiled.{IsCodeOf}
 use Rattle.compiler.proofs.Isolating.{isolated-module}
+use Rattle.compiler.proofs.Typed.{typed_from}
 
 module _ (program : Program) (graph m : ModuleContents) (interface : HasInterfaceOf program graph) (same : SameInterface graph m) where
   -- the module shows what the graph does
@@ -35,7 +36,7 @@ module _ (program : Program) (graph m : ModuleContents) (interface : HasInterfac
       record {
         contents = m;
         spelled = spelled;
-        not_refused = subst IsNotRefused (sym is) not_refused;
+        typed = typed_from m (subst IsNotRefused (sym is) not_refused);
         never_stuck = subst IsNeverStuck (sym is) never_stuck;
         interface = same-interface;
         kept = meaning;

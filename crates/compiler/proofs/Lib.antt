@@ -1,3 +1,4 @@
 pub mod Readers
 mod Isolating
 mod Coding
+pub mod Typed

@@ -1,1 +1,3 @@
 pub mod Compiled
+pub mod Laws
+pub mod TypedCode

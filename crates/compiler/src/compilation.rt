@@ -51,6 +51,8 @@ pub fn compile_checked(alloc: Global, checked: &Checked) -> Result<Vec<u8>, Allo
     let _count = core.hierarchy.count();
     let graph = lower(alloc, checked)?;
     let module = emit(alloc, &graph)?;
+    // The module is all that the bytes are made of.
+    drop(graph);
     let code = encode(alloc, &module)?;
     Ok(code)
 }

@@ -2,6 +2,7 @@
 #![tactic(auto)]
 
 mod compilation;
+pub mod laws;
 
 pub use checker::{Fault, Refusal};
 pub use compilation::{compile, compile_checked};

@@ -290,11 +290,11 @@ form-by walk context s tree old new result is walked =
 pub form-simple : {A E : Type 0} (walk : ProcedureWalk) (context : Context) (around : Around) (thrown : List ExitUnknown) (s : S.Statement) (tree : Statement) (old new : Progress) (result : Result A E)
     → statement_of s ≡ tree → inner_paths (program_of walk.table.now.core.now) tree ≡ [] → made_by_statement tree ≡ 0
     → thrown ≡ old.thrown.items → new ≡ record old { constraints = new.constraints }
-    → around.pc ≡ context.pc → exit_unknowns_around around ≡ exit_unknowns_of context.exit_unknowns thrown
+    → around.pc ≡ context.pc → exit_unknowns_around around ≡ exit_unknowns_of context.exit_unknowns.now thrown
     → OnOk result (IsSimpleBy walk around tree old.constraints.items new.constraints.items) → OnOk result (IsFormWalkedBy walk context (statement_of s) old new)
 form-simple walk context around thrown s tree old new result is none made_none same kept pc_is exit_unknowns_are added =
     form-by walk context s tree old new result is (on_ok_weaker result
-    (λ simple. simple-walked walk.table.now.core.now walk.table.now.core.now.labels (entries_of walk.map.now) walk.procedure tree context.pc context.exit_unknowns around thrown old new
+    (λ simple. simple-walked walk.table.now.core.now walk.table.now.core.now.labels (entries_of walk.map.now) walk.procedure tree context.pc context.exit_unknowns.now around thrown old new
     none made_none same (ap (λ (p : Progress). p.index) kept) (ap (λ (p : Progress). p.number) kept) (ap (λ (p : Progress). p.thrown.items) kept) (ap (λ (p : Progress). p.journal) kept) pc_is exit_unknowns_are simple)
     added)
 

@@ -223,6 +223,16 @@ laid-one k parts c old new is left right target some = record {
       (target, ((first-part parts some).0, subst (λ list. Contains list (first-part parts some).0) (sym left) (first-part parts some).1));
 }
 
+-- nothing asks for no constraint
+pub laid-none : (k : ℕ) (old : List Stored) → IsLaidOut k [] old old
+laid-none k old = record {
+  laid = [];
+  laid_is = sym (append-nil old);
+  goes = λ p h. absurd (none_in_nil p h);
+  came = λ p to flow. absurd (none_in_nil flow.by flow.among);
+  inner = λ d h. absurd (none_in_nil d h);
+}
+
 -- ---- so far
 pub so-far-next : (Over : Atom → Atom → Type 0) (same : (a : Atom) → Over a a) (then : (a b c : Atom) → Over a b → Over b c → Over a c) (core : Core) (table : List Label) (journal : Journal) (calls more : List Called) (start middle rows : List Row) (taken : List Stored) (old between new : Made)
     → (so_far : AreSpreadSoFar Over core table journal calls start middle old between)

@@ -62,19 +62,19 @@ IsWalkedBy walk = IsWalked walk.table.now.core.now (labels_in walk.table.now) (e
 
 abbrev pub IsBlockWalkedBy : ProcedureWalk → Context → Block → (old new : Progress) → Type 0
 IsBlockWalkedBy walk context =
-    IsBlockWalked walk.table.now.core.now (labels_in walk.table.now) (entries_in walk) walk.procedure context.pc context.exit_unknowns
+    IsBlockWalked walk.table.now.core.now (labels_in walk.table.now) (entries_in walk) walk.procedure context.pc context.exit_unknowns.now
 
 abbrev pub AreStatementsWalkedBy : ProcedureWalk → Context → Block → (old new : Progress) → Type 0
 AreStatementsWalkedBy walk context =
-    AreStatementsWalked walk.table.now.core.now (labels_in walk.table.now) (entries_in walk) walk.procedure context.pc context.exit_unknowns
+    AreStatementsWalked walk.table.now.core.now (labels_in walk.table.now) (entries_in walk) walk.procedure context.pc context.exit_unknowns.now
 
 abbrev pub IsStatementWalkedBy : ProcedureWalk → Context → (normal : ℕ) → Statement → (old new : Progress) → Type 0
 IsStatementWalkedBy walk context =
-    IsStatementWalked walk.table.now.core.now (labels_in walk.table.now) (entries_in walk) walk.procedure context.pc context.exit_unknowns
+    IsStatementWalked walk.table.now.core.now (labels_in walk.table.now) (entries_in walk) walk.procedure context.pc context.exit_unknowns.now
 
 abbrev pub IsFormWalkedBy : ProcedureWalk → Context → Statement → (old new : Progress) → Type 0
 IsFormWalkedBy walk context =
-    IsFormWalked walk.table.now.core.now (labels_in walk.table.now) (entries_in walk) walk.procedure context.pc context.exit_unknowns
+    IsFormWalked walk.table.now.core.now (labels_in walk.table.now) (entries_in walk) walk.procedure context.pc context.exit_unknowns.now
 
 abbrev pub AreHandlersWalkedBy : ProcedureWalk → (pc : Atom) → ExitUnknowns → (number : ℕ → ℕ) → Handlers → (old new : Progress) → Type 0
 AreHandlersWalkedBy walk = AreHandlersWalked walk.table.now.core.now (labels_in walk.table.now) (entries_in walk) walk.procedure

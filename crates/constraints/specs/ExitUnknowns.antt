@@ -26,7 +26,7 @@ abbrev pub exit_unknowns_of : ExitUnknowns → (thrown : List ExitUnknown) → w
 exit_unknowns_of exit_unknowns thrown = value_at (thrown_exit_unknown thrown) exit_unknowns.ends
 
 abbrev pub exit_unknowns_around : Around → walk.ExitUnknowns
-exit_unknowns_around around = exit_unknowns_of around.exit_unknowns around.thrown.now
+exit_unknowns_around around = exit_unknowns_of around.exit_unknowns.now around.thrown.now
 
 -- no level is above this one
 abbrev pub AreWithin : (level : ℕ) → (thrown : List ExitUnknown) → Type 0

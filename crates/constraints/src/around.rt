@@ -11,18 +11,19 @@ use solver::Atom;
 
 /// The context of a block or a statement: the pc at which it is reached, and the exit unknowns of its exits, for whose exceptions the progress of a
 /// walk has the entries.
-#[derive(Clone, Copy, Debug, PartialEq, Eq)]
-pub struct Context {
+#[derive(Clone, Copy, Debug)]
+pub struct Context<'a> {
     pub pc: Atom,
-    pub exit_unknowns: ExitUnknowns,
+    pub exit_unknowns: &'a ExitUnknowns,
 }
 
-impl Context {
+impl<'a> Context<'a> {
     /// What stands around a statement of this context, where exceptions have these entries.
-    pub fn around(self, thrown: &[ExitUnknown]) -> Around<'_>
-        ensures pc { result.pc ≡ self.pc }
-        ensures exit_unknowns { exit_unknowns_around result ≡ exit_unknowns_of self.exit_unknowns
-            thrown.now }
+    #[inline(always)]
+    pub fn around(self, thrown: &'a [ExitUnknown]) -> Around<'a>
+        ensures pc { result.pc ≡ self.entry.pc }
+        ensures exit_unknowns { exit_unknowns_around result
+            ≡ exit_unknowns_of self.entry.exit_unknowns.now thrown.now }
     {
         Around {
             pc: self.pc,
@@ -36,7 +37,7 @@ impl Context {
 #[derive(Clone, Copy, Debug)]
 pub struct Around<'a> {
     pub pc: Atom,
-    pub exit_unknowns: ExitUnknowns,
+    pub exit_unknowns: &'a ExitUnknowns,
     pub thrown: &'a [ExitUnknown],
 }
 

@@ -39,6 +39,7 @@ impl<'a> ProcedureWalk<'a> {
     }
 
     /// Adds the flow of the pc to the exit unknown of the possible exit, where there is one only.
+    #[inline(always)]
     pub fn add_single(
         &self,
         exits: Exits,

@@ -30,6 +30,7 @@ fn can_divide_by_zero(operator: Operator, divisor: &Expression) -> bool
 
 impl<'a> Table<'a> {
     /// Adds the label of what a rule names.
+    #[inline(always)]
     pub fn add_label(&self, target: Target, left: &mut Left) -> Result<(), AllocError>
         ensures { OnOk result (IsJoinedBy self.now (one (label_of (program_in self.now) target))
             left.old.items left.new.items) }

@@ -294,6 +294,16 @@ impl CallPath {
 }
 
 impl Following {
+    // Nothing flows on.
+    fn none(alloc: Global) -> Result<Following, AllocError>
+        ensures { IfOk result (λ following. (real : ℕ) (base : List Stored) →
+            IsCallPath real base following.last × IsCallPath real base following.first) }
+    {
+        let last = CallPath::new(alloc, 0)?;
+        let first = CallPath::new(alloc, 0)?;
+        Ok(Following { last, first })
+    }
+
     /// Where the labels of calls flow on by constraints between inner unknowns, which are those from a number on, of this many unknowns.
     pub(crate) fn of(
         alloc: Global,
@@ -305,6 +315,9 @@ impl Following {
         ensures { IfOk result (λ following. IsCallPath real constraints.now following.last
             × IsCallPath real constraints.now following.first) }
     {
+        if count == 0 {
+            return Following::none(alloc);
+        }
         let Onward { greatest, least } = Onward::of(alloc, real, count, constraints)?;
         let last = CallPath::of(alloc, count, &greatest, &least, calls)?;
         let first = CallPath::of(alloc, count, &least, &greatest, calls)?;

@@ -225,6 +225,14 @@ fn add_written(written: &[Atom], left: &mut Left) -> Result<(), AllocError>
     Ok(())
 }
 
+// Whether a row has no parts. Most rows have none.
+#[inline(always)]
+fn are_none(unknowns: &[Atom], written: &[Atom]) -> bool
+    ensures { IsTrue result → unknowns.now ++ written.now ≡ [] }
+{
+    unknowns.is_empty() && written.is_empty()
+}
+
 // Lays out a row.
 fn lay_out_row(
     alloc: Global,
@@ -246,6 +254,9 @@ fn lay_out_row(
         made.new.constraints.items) }
 {
     let row = &rows[number];
+    if are_none(&row.unknowns, &row.written) {
+        return Ok(());
+    }
     let next = unknowns_of(rows, number + 1);
     let mut left = left_of(alloc, &row.unknowns, next, most, held, made)?;
     add_written(&row.written, &mut left)?;

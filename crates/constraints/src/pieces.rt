@@ -37,6 +37,7 @@ pub(crate) struct Tried {
 
 impl<'a> ProcedureWalk<'a> {
     // The possible exits of the next block or statement.
+    #[inline(always)]
     fn next_exits(&self, progress: &mut Progress) -> Exits
         requires { progress.old.index < length (entries_in self.now) }
         ensures found { drop progress.old.index (entries_in self.now) ≡ result ∷ drop
@@ -51,6 +52,7 @@ impl<'a> ProcedureWalk<'a> {
     }
 
     // Comes to a block or statement: gives its possible exits, and adds the flow of the pc where there is one only.
+    #[inline(always)]
     pub(crate) fn begin(
         &self,
         context: Context,
@@ -60,9 +62,9 @@ impl<'a> ProcedureWalk<'a> {
         ensures exits { IfOk result (λ exits. (first : Exits) (left : List Exits) →
             drop progress.old.index (entries_in self.now) ≡ first ∷ left → exits ≡ first) }
         ensures added { OnOk result ((ends : List Exit) →
-            IsWalkedBy self.now context.pc context.exit_unknowns (ends ∷ [])
+            IsWalkedBy self.now context.entry.pc context.entry.exit_unknowns.now (ends ∷ [])
             (λ (named : NamedAtom). single (one_exit ends) named
-            (exit_unknowns_of context.exit_unknowns progress.old.thrown.items) ends) 0
+            (exit_unknowns_of context.entry.exit_unknowns.now progress.old.thrown.items) ends) 0
             progress.old progress.new) }
     {
         let exits = self.next_exits(progress);
@@ -91,9 +93,10 @@ impl<'a> ProcedureWalk<'a> {
         progress: &mut Progress,
     ) -> Result<(), AllocError>
         ensures { OnOk result ((n : ℕ) →
-            IsWalkedBy self.now context.pc context.exit_unknowns []
+            IsWalkedBy self.now context.entry.pc
+            context.entry.exit_unknowns.now []
             (λ (named : NamedAtom). block_constraints (scope_in self.now) reached named
-            (exit_unknowns_of context.exit_unknowns progress.old.thrown.items) n Empty) 0
+            (exit_unknowns_of context.entry.exit_unknowns.now progress.old.thrown.items) n Empty) 0
             progress.old progress.new) }
     {
         if !reached {
@@ -118,9 +121,11 @@ impl<'a> ProcedureWalk<'a> {
     ) -> Result<u32, AllocError>
         requires { MayMakeUnknowns 1 progress.old }
         ensures number { IfOk result (λ number. number ≡ progress.old.number) }
-        ensures added { OnOk result (IsWalkedBy self.now context.pc context.exit_unknowns []
+        ensures added { OnOk result (IsWalkedBy self.now context.entry.pc
+            context.entry.exit_unknowns.now []
             (λ (named : NamedAtom). branch_constraints (scope_in self.now) named
-            (exit_unknowns_of context.exit_unknowns progress.old.thrown.items) progress.old.number
+            (exit_unknowns_of context.entry.exit_unknowns.now progress.old.thrown.items)
+            progress.old.number
             (expression_of condition.now)) 1 progress.old progress.new) }
     {
         let number = progress.make(1);
@@ -142,9 +147,11 @@ impl<'a> ProcedureWalk<'a> {
         requires { MayMakeUnknowns 2 progress.old }
         ensures inner { IfOk result (λ pcs. pcs.0 ≡ progress.old.number) }
         ensures back { IfOk result (λ pcs. pcs.1 ≡ progress.old.number + 1) }
-        ensures added { OnOk result (IsWalkedBy self.now context.pc context.exit_unknowns []
+        ensures added { OnOk result (IsWalkedBy self.now context.entry.pc
+            context.entry.exit_unknowns.now []
             (λ (named : NamedAtom). loop_head_constraints (scope_in self.now) named
-            (exit_unknowns_of context.exit_unknowns progress.old.thrown.items) progress.old.number
+            (exit_unknowns_of context.entry.exit_unknowns.now progress.old.thrown.items)
+            progress.old.number
             site.at site.number (expression_of condition.now)) 2 progress.old progress.new) }
     {
         let inner = progress.make(2);
@@ -207,6 +214,7 @@ impl<'a> ProcedureWalk<'a> {
     }
 
     // Walks past a call.
+    #[inline(never)]
     pub(crate) fn walk_call(
         &self,
         site: CallSite,
@@ -215,9 +223,11 @@ impl<'a> ProcedureWalk<'a> {
         progress: &mut Progress,
     ) -> Result<(), AllocError>
         requires { MayMakeUnknowns 1 progress.old }
-        ensures { OnOk result (IsWalkedBy self.now context.pc context.exit_unknowns []
+        ensures { OnOk result (IsWalkedBy self.now context.entry.pc
+            context.entry.exit_unknowns.now []
             (λ (named : NamedAtom). call_constraints (scope_in self.now) named
-            (exit_unknowns_of context.exit_unknowns progress.old.thrown.items) progress.old.number
+            (exit_unknowns_of context.entry.exit_unknowns.now progress.old.thrown.items)
+            progress.old.number
             site.at site.callee (map expression_of arguments.now) site.target) 1
             progress.old progress.new) }
     {

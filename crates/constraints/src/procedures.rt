@@ -149,7 +149,7 @@ impl<'a> ProcedureWalk<'a> {
         let begin = self.table.part(Target::ToBegin(self.procedure));
         let context = Context {
             pc: begin,
-            exit_unknowns,
+            exit_unknowns: &exit_unknowns,
         };
         walk_block(self, &procedure.body, context, progress)?;
         self.add_exit_demands(procedure, number, only, progress)?;

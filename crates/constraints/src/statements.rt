@@ -86,6 +86,7 @@ impl<'a> ProcedureWalk<'a> {
     }
 
     /// Adds what is gathered of `break`, `continue` or `throw`.
+    #[inline(never)]
     pub fn add_leave(
         &self,
         at: usize,
@@ -103,6 +104,7 @@ impl<'a> ProcedureWalk<'a> {
     }
 
     /// Adds what is gathered of a return.
+    #[inline(never)]
     pub fn add_return(
         &self,
         at: usize,
@@ -134,6 +136,7 @@ impl<'a> ProcedureWalk<'a> {
     }
 
     /// Adds what is gathered of the declaration of an array.
+    #[inline(never)]
     pub fn add_clear(
         &self,
         at: usize,
@@ -184,6 +187,7 @@ impl<'a> ProcedureWalk<'a> {
     }
 
     /// Adds what is gathered of a receive.
+    #[inline(never)]
     pub fn add_receive(
         &self,
         at: usize,

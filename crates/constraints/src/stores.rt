@@ -71,6 +71,7 @@ impl<'a> ProcedureWalk<'a> {
     }
 
     /// Adds what is gathered of a store into an array.
+    #[inline(never)]
     pub fn add_store(
         &self,
         store: ArrayStore,

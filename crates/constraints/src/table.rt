@@ -161,7 +161,8 @@ impl<'a> Table<'a> {
         label_in(&self.row(procedure).throws, exception, self.nothing)
     }
 
-    /// The part of the label of what a rule names.
+    /// The part of the label of what a rule names. Where it is known what that is, only its part is looked for.
+    #[inline(always)]
     pub fn part(&self, target: Target) -> Atom
         ensures { part self.now.core.now.labels result
             ≡ part_of (program_of self.now.core.now) target }

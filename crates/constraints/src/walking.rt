@@ -27,14 +27,14 @@ pub(crate) fn walk_block(
     context: Context,
     progress: &mut Progress,
 ) -> Result<(), AllocError>
-    requires { IsBlockReadyBy walk.now context.exit_unknowns (block_of block.now) progress.old }
-    ensures { OnOk result (IsBlockWalkedBy walk.now context (block_of block.now)
+    requires { IsBlockReadyBy walk.now context.exit_unknowns.now (block_of block.now) progress.old }
+    ensures { OnOk result (IsBlockWalkedBy walk.now context.entry (block_of block.now)
         progress.old progress.new) }
 {
     let exits = walk.begin(context, progress)?;
     let exit_unknowns = context.exit_unknowns.within_single(exits.is_single());
     let inner = Context {
-        exit_unknowns,
+        exit_unknowns: &exit_unknowns,
         ..context
     };
     walk_statements(walk, block, inner, progress)?;
@@ -49,9 +49,9 @@ fn walk_statements(
     context: Context,
     progress: &mut Progress,
 ) -> Result<(), AllocError>
-    requires { AreStatementsReadyBy walk.now context.exit_unknowns (block_of block.now)
+    requires { AreStatementsReadyBy walk.now context.exit_unknowns.now (block_of block.now)
         progress.old }
-    ensures { OnOk result (AreStatementsWalkedBy walk.now context (block_of block.now)
+    ensures { OnOk result (AreStatementsWalkedBy walk.now context.entry (block_of block.now)
         progress.old progress.new) }
 {
     let mut reached = true;
@@ -83,17 +83,17 @@ fn walk_statement(
     context: Context,
     progress: &mut Progress,
 ) -> Result<Exits, AllocError>
-    requires { IsStatementReadyBy walk.now context.exit_unknowns (statement_of statement.now)
+    requires { IsStatementReadyBy walk.now context.exit_unknowns.now (statement_of statement.now)
         progress.old }
     ensures exits { IfOk result (λ exits. (first : Exits) (left : List Exits) →
         drop progress.old.index (entries_in walk.now) ≡ first ∷ left → exits ≡ first) }
-    ensures added { OnOk result (IsStatementWalkedBy walk.now context number
+    ensures added { OnOk result (IsStatementWalkedBy walk.now context.entry number
         (statement_of statement.now) progress.old progress.new) }
 {
     let exit_unknowns = context.exit_unknowns.with_normal(None);
     let exits = walk.begin(
         Context {
-            exit_unknowns,
+            exit_unknowns: &exit_unknowns,
             ..context
         },
         progress,
@@ -106,7 +106,7 @@ fn walk_statement(
         walk,
         statement,
         Context {
-            exit_unknowns,
+            exit_unknowns: &exit_unknowns,
             ..context
         },
         progress,
@@ -115,6 +115,8 @@ fn walk_statement(
 }
 
 // Walks past a statement, by its form.
+// A call, so that the walk along a block keeps what it needs at hand.
+#[inline(never)]
 #[cycle(walk)]
 fn walk_form(
     walk: &ProcedureWalk,
@@ -122,9 +124,9 @@ fn walk_form(
     context: Context,
     progress: &mut Progress,
 ) -> Result<(), AllocError>
-    requires { IsFormReadyBy walk.now context.exit_unknowns (statement_of statement.now)
+    requires { IsFormReadyBy walk.now context.exit_unknowns.now (statement_of statement.now)
         progress.old }
-    ensures { OnOk result (IsFormWalkedBy walk.now context (statement_of statement.now)
+    ensures { OnOk result (IsFormWalkedBy walk.now context.entry (statement_of statement.now)
         progress.old progress.new) }
 {
     let around = context.around(&progress.thrown);
@@ -172,6 +174,7 @@ fn walk_form(
 }
 
 // Walks past a branch.
+#[inline(never)]
 #[cycle(walk)]
 fn walk_if(
     walk: &ProcedureWalk,
@@ -181,11 +184,11 @@ fn walk_if(
     context: Context,
     progress: &mut Progress,
 ) -> Result<(), AllocError>
-    requires { IsFormReadyBy walk.now context.exit_unknowns
+    requires { IsFormReadyBy walk.now context.exit_unknowns.now
         (If 0 (expression_of condition.now) (block_of then_block.now) (block_of else_block.now))
         progress.old }
     ensures { OnOk result ((at : ℕ) →
-        IsFormWalkedBy walk.now context
+        IsFormWalkedBy walk.now context.entry
         (If at (expression_of condition.now) (block_of then_block.now) (block_of else_block.now))
         progress.old progress.new) }
 {
@@ -198,6 +201,7 @@ fn walk_if(
 }
 
 // Walks past a loop with this number.
+#[inline(never)]
 #[cycle(walk)]
 fn walk_while(
     walk: &ProcedureWalk,
@@ -207,16 +211,17 @@ fn walk_while(
     context: Context,
     progress: &mut Progress,
 ) -> Result<(), AllocError>
-    requires { IsFormReadyBy walk.now context.exit_unknowns
+    requires { IsFormReadyBy walk.now context.exit_unknowns.now
         (While site.at site.number (expression_of condition.now) (block_of body.now)) progress.old }
-    ensures { OnOk result (IsFormWalkedBy walk.now context
+    ensures { OnOk result (IsFormWalkedBy walk.now context.entry
         (While site.at site.number (expression_of condition.now) (block_of body.now))
         progress.old progress.new) }
 {
     let (inner, back) = walk.begin_loop(site, condition, context, progress)?;
+    let exit_unknowns = context.exit_unknowns.in_loop(back);
     let inside = Context {
         pc: Atom::Unknown(inner),
-        exit_unknowns: context.exit_unknowns.in_loop(back),
+        exit_unknowns: &exit_unknowns,
     };
     walk_block(walk, body, inside, progress)?;
     walk.end_loop(site, back, progress)?;
@@ -224,6 +229,7 @@ fn walk_while(
 }
 
 // Walks past a `try`.
+#[inline(never)]
 #[cycle(walk)]
 fn walk_try(
     walk: &ProcedureWalk,
@@ -232,15 +238,16 @@ fn walk_try(
     context: Context,
     progress: &mut Progress,
 ) -> Result<(), AllocError>
-    requires { IsFormReadyBy walk.now context.exit_unknowns
+    requires { IsFormReadyBy walk.now context.exit_unknowns.now
         (Try 0 (block_of block.now) (handlers_of handlers.now)) progress.old }
     ensures { OnOk result ((at : ℕ) →
-        IsFormWalkedBy walk.now context (Try at (block_of block.now) (handlers_of handlers.now))
+        IsFormWalkedBy walk.now context.entry
+        (Try at (block_of block.now) (handlers_of handlers.now))
         progress.old progress.new) }
 {
-    let tried = walk.begin_try(handlers, context.exit_unknowns, progress)?;
+    let tried = walk.begin_try(handlers, *context.exit_unknowns, progress)?;
     let inside = Context {
-        exit_unknowns: tried.exit_unknowns,
+        exit_unknowns: &tried.exit_unknowns,
         ..context
     };
     walk_block(walk, block, inside, progress)?;
@@ -264,15 +271,15 @@ fn walk_handlers(
     walk: &ProcedureWalk,
     handlers: &[Handler],
     numbers: &[u32],
-    exit_unknowns: ExitUnknowns,
+    exit_unknowns: &ExitUnknowns,
     progress: &mut Progress,
 ) -> Result<(), AllocError>
     requires numbered { length numbers.now ≡ length handlers.now }
-    requires ready { AreHandlersReadyBy walk.now exit_unknowns (handlers_of handlers.now)
+    requires ready { AreHandlersReadyBy walk.now exit_unknowns.now (handlers_of handlers.now)
         progress.old }
     ensures { OnOk result ((number : ℕ → ℕ) (pc : Atom) →
         numbers.now ≡ map (λ (handler : Handler). number handler.exception) handlers.now →
-        AreHandlersWalkedBy walk.now pc exit_unknowns number (handlers_of handlers.now)
+        AreHandlersWalkedBy walk.now pc exit_unknowns.now number (handlers_of handlers.now)
         progress.old progress.new) }
 {
     for (i, handler) in handlers.iter().enumerate() {

@@ -34,6 +34,7 @@ use Rattle.compiler.specs.Compiled.{IsCompiled}
 use Rattle.lowering.specs.Interface.{HasInterfaceOf}
 use Rattle.channels.specs.WorldText.{IsWorldText, lines_of}
 use Rattle.compiler.proofs.Readers.{label-module, seen-module}
+use Rattle.compiler.proofs.Typed.{typed_is_not_refused}
 use Rattle.lowering.proofs.Sent.{exec-keeps}
 use Rattle.modules.proofs.Executing.{exec_more}
 use Rattle.machine.specs.Run.{HasEnded}
@@ -172,7 +173,7 @@ some_show_all fresh ends said source code compiled world under p fuel named cont
     let m = module_in compiled in
     let can : CanOpen code world under m = record {
       spelled = compiled.code_of.spelled;
-      not_refused = compiled.code_of.not_refused;
+      not_refused = (typed_is_not_refused m).0 compiled.code_of.typed;
       named = named;
       contained = contained;
     } in

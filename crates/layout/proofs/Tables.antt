@@ -1,6 +1,7 @@
 -- The table of offsets: how it is made, entry by entry, and what code becomes by it.
-use Rattle.std.proofs.Common.{◌≡◌, ℕ, ◌+◌, ◌<◌, ◌≤◌, ◌∙◌, refl, sym, ap, List, [], ◌∷◌, ◌++◌, length, get_or, arith, add-one, below_more, length-append, map, take}
-use Rattle.std.proofs.lemmas.List.{get_or_append_left, get_or_push, map_more}
+use Rattle.std.proofs.Common.{◌≡◌, ℕ, ◌+◌, ◌<◌, ◌≤◌, ◌∙◌, refl, sym, ap, List, [], ◌∷◌, ◌++◌, All, length, get_or, set, zero, suc, arith, add-one, below_more, length-append, map, take, drop}
+use Rattle.std.proofs.lemmas.List.{get_or_append_left, get_or_default, get_or_push, map_more}
+use Rattle.std.proofs.lemmas.List.Edits.{map_over_more}
 use Rattle.std.proofs.lemmas.Option.{slice_get-get_or}
 use Rattle.modules.specs.declared.instruction.Instruction.{Instruction}
 use Rattle.modules.specs.declared.instruction.Instruction.TheVariants.{Jump, JumpIfFalse}
@@ -39,6 +40,24 @@ pub instruction-by_table : (code : List Instruction) (table : List ℕ) (x : Ins
 instruction-by_table code table (Jump target) h below = ap (λ (k : ℕ). Jump k) (h.entries target (omega (arith, below)))
 instruction-by_table code table (JumpIfFalse target) h below = ap (λ (k : ℕ). JumpIfFalse k) (h.entries target (omega (arith, below)))
 instruction-by_table code table x h below = refl
+
+-- an element of a list of which a function was written over the first elements, and not yet over this one
+unwritten : {X : Type 0} (f : X → X) (xs : List X) (i : ℕ) (d : X) → i < length xs → get_or (map f (take i xs) ++ drop i xs) i d ≡ get_or xs i d
+unwritten f [] i d below = absurd (omega (arith, below))
+unwritten f (x ∷ xs) zero d below = refl
+unwritten f (x ∷ xs) (suc i) d below = unwritten f xs i d (omega (arith, below))
+
+-- code whose first instructions have their offsets, with one more
+pub written_more : (code items : List Instruction) (table : List ℕ) (i : ℕ) (d y : Instruction) → IsTableOf code table → All (HasTargetIn code) code → i < length code
+    → items ≡ map (renamed_instruction (offset code)) (take i code) ++ drop i code → y ≡ renamed_instruction (λ position. get_or table position 0) (get_or items i d)
+    → set items i y ≡ map (renamed_instruction (offset code)) (take (i + 1) code) ++ drop (i + 1) code
+written_more code items table i d y is_table targets below before made =
+    let f = renamed_instruction (offset code) in
+    let here : get_or items i d ≡ get_or code i d = ap (λ (l : List Instruction). get_or l i d) before ∙ unwritten f code i d below in
+    let x = get_or code i d in
+    let read : get_or items i x ≡ x = ap (λ (l : List Instruction). get_or l i x) before ∙ unwritten f code i x below ∙ get_or_default code i x d below in
+    let same : y ≡ f x = made ∙ ap (renamed_instruction (λ position. get_or table position 0)) here ∙ instruction-by_table code table x is_table (targets i d below) in
+    ap (set items i) same ∙ map_over_more f code items i x below before (sym read)
 
 -- a list of what a function makes of the first elements, with one more
 pub made_more : {X Y : Type 0} (f : X → Y) (xs : List X) (made new : List Y) (i : ℕ) (d : X) (y : Y) → i < length xs → new ≡ made ++ y ∷ [] → made ≡ map f (take i xs) → y ≡ f (get_or xs i d) → new ≡ map f (take (i + 1) xs)

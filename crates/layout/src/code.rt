@@ -4,36 +4,37 @@ ghost use Rattle.layout.specs.Graph.{HasPositions, HasTargetIn, IsHandlerIn};
 ghost use Rattle.layout.specs.Offsets.{laid_out_procedure, offset};
 ghost use Rattle.layout.specs.Tables.{IsTableOf};
 ghost use Rattle.modules.specs.Targets.{renamed_handler, renamed_instruction, target_of};
-ghost use Rattle.std.specs.Prelude.{All, IfOk, IfSome, length, map, slice_index, ◌<◌, ◌^◌, ◌≡◌};
+ghost use Rattle.std.specs.Prelude.{All, IfOk, IfSome, OnOk, length, map, slice_index, ◌<◌, ◌^◌, ◌≡◌};
 
 use modules::{Handler, Instruction, Procedure};
 use std::alloc::{AllocError, Global};
 
-/// The offset of each position of the code, and of its end.
-fn make_table(alloc: Global, code: &[Instruction]) -> Result<Vec<u32>, AllocError>
+/// Makes a table that of the code: the offset of each position, and of the end.
+fn fill_table(table: &mut Vec<u32>, code: &[Instruction]) -> Result<(), AllocError>
     requires { code_length code.now < 2 ^ 32 }
-    ensures { IfOk result (λ table. IsTableOf code.now table.items) }
+    ensures { OnOk result (IsTableOf code.now table.new.items) }
 {
-    let mut table = Vec::new(alloc);
+    table.clear();
+    table.reserve(code.len() + 1)?;
     let mut next = 0;
     for instruction in code {
         table.push(next)?;
         next += instruction.width() as u32;
     }
     table.push(next)?;
-    Ok(table)
+    Ok(())
 }
 
-/// The instruction with the offset of its target.
-fn lay_out_instruction(table: &[u32], instruction: Instruction) -> Instruction
-    requires { IfSome (target_of instruction) (λ target. target < length table.now) }
-    ensures { result ≡
-        renamed_instruction (λ position. slice_index table.now position) instruction }
+/// Puts the offset of its target into an instruction.
+fn lay_out_instruction(table: &[u32], instruction: &mut Instruction)
+    requires { IfSome (target_of instruction.old) (λ target. target < length table.now) }
+    ensures { instruction.new ≡
+        renamed_instruction (λ position. slice_index table.now position) instruction.old }
 {
     match instruction {
-        Instruction::Jump(target) => Instruction::Jump(table[target as usize]),
-        Instruction::JumpIfFalse(target) => Instruction::JumpIfFalse(table[target as usize]),
-        _ => instruction,
+        Instruction::Jump(target) => *target = table[*target as usize],
+        Instruction::JumpIfFalse(target) => *target = table[*target as usize],
+        _ => {}
     }
 }
 
@@ -63,9 +64,9 @@ fn lay_out_code(
     ensures { IfOk result (λ made. made.items ≡ map (renamed_instruction (offset code.now))
         code.now) }
 {
-    let mut made = Vec::new(alloc);
-    for instruction in code {
-        made.push(lay_out_instruction(table, *instruction))?;
+    let mut made = Vec::from_slice(alloc, code)?;
+    for instruction in made.iter_mut() {
+        lay_out_instruction(table, instruction);
     }
     Ok(made)
 }
@@ -82,26 +83,27 @@ fn lay_out_handlers(
     ensures { IfOk result (λ made. made.items ≡ map (renamed_handler (offset code.now))
         handlers.now) }
 {
-    let mut made = Vec::new(alloc);
+    let mut made = Vec::with_capacity(alloc, handlers.len())?;
     for handler in handlers {
         made.push(lay_out_handler(table, *handler))?;
     }
     Ok(made)
 }
 
-/// The procedure with byte offsets instead of positions.
+/// The procedure with byte offsets instead of positions. The table of its offsets takes the place of another procedure's.
 pub(crate) fn lay_out_procedure(
     alloc: Global,
+    table: &mut Vec<u32>,
     procedure: &Procedure,
 ) -> Result<Procedure, AllocError>
     requires short { code_length procedure.now.code < 2 ^ 32 }
     requires positions { HasPositions procedure.now }
     ensures { IfOk result (λ made. made ≡ laid_out_procedure procedure.now) }
 {
-    let table = make_table(alloc, procedure.code())?;
+    fill_table(table, procedure.code())?;
     let slots = Vec::from_slice(alloc, procedure.slots())?;
-    let code = lay_out_code(alloc, &table, procedure.code())?;
-    let handlers = lay_out_handlers(alloc, &table, procedure.code(), procedure.handlers())?;
+    let code = lay_out_code(alloc, table, procedure.code())?;
+    let handlers = lay_out_handlers(alloc, table, procedure.code(), procedure.handlers())?;
     Ok(Procedure::new(
         procedure.returned(),
         procedure.parameters(),

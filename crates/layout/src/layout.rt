@@ -49,9 +49,10 @@ fn lay_out_procedures(alloc: Global, procedures: &[Procedure]) -> Result<Vec<Pro
     requires positions { All HasPositions procedures.now }
     ensures { IfOk result (λ made. made.items ≡ map laid_out_procedure procedures.now) }
 {
-    let mut made = Vec::new(alloc);
+    let mut table = Vec::new(alloc);
+    let mut made = Vec::with_capacity(alloc, procedures.len())?;
     for procedure in procedures {
-        made.push(lay_out_procedure(alloc, procedure)?)?;
+        made.push(lay_out_procedure(alloc, &mut table, procedure)?)?;
     }
     Ok(made)
 }

@@ -1,6 +1,6 @@
 -- What a lexeme is, by the class of its first character.
 use Rattle.std.proofs.Common.{◌≡◌, ℕ, ◌≤◌, ◌==◌, ◌&&◌, ◌||◌, Bool, true, false, not, cond, List, [], ◌∷◌, Option, Some, None, length, refl, sym, ap, subst, ◌∙◌, inl, inr, arith, unwrap_or, is_some, ◌++◌, codes}
-use Rattle.std.proofs.lemmas.Bool.{and_parts, or_cases, eqb-true, le-leb, lt-leb, cond-true, cond-false}
+use Rattle.std.proofs.lemmas.Bool.{and_parts, both_ways, or_cases, eqb-true, le-leb, lt-leb, cond-true, cond-false}
 use Rattle.std.specs.Char.{is_ascii_digit, is_ascii_lowercase}
 use Rattle.std.specs.List.{list_all}
 use Rattle.std.specs.Prelude.{nat_le}
@@ -86,6 +86,15 @@ sign_word (c ∷ []) = is_sign_first c || c == 47
 sign_word (c ∷ d ∷ []) = is_sign_first c
 sign_word (c ∷ d ∷ e ∷ []) = is_sign_first c
 sign_word (c ∷ d ∷ e ∷ f ∷ cs) = false
+
+-- a sign of one character other than `/`
+pub lone_sign : (c : ℕ) (kind : Kind) → sign_of (c ∷ []) ≡ Some kind → (c == 47) ≡ false → class_of c ≡ Other
+unfolding sign_word
+lone_sign c kind found other =
+    elim (or_cases _ _ (found_passes sign_word signs refl (c ∷ []) kind found)) [
+      | inl first ↦ class-Other c first
+      | inr solidus ↦ absurd (both_ways (c == 47) other solidus)
+    ]
 
 -- a `/` that is a sign
 alone : (c : ℕ) (kind : Kind) → c ≡ 47 → sign_of (c ∷ []) ≡ Some kind → Front (class_of c) c [] (Word kind)

@@ -15,7 +15,8 @@ use Rattle.lexer.proofs.Cutting.{cuts_on}
 use Rattle.lexer.proofs.Listed.{size-append, front_some}
 use Rattle.lexer.proofs.Nexts.{next_white}
 use Rattle.lexer.proofs.Reading.{run_parts}
-use Rattle.lexer.proofs.Runs.{Stops, same_before}
+use Rattle.lexer.specs.Scan.{Stops}
+use Rattle.lexer.proofs.Runs.{same_before}
 use Rattle.std.proofs.lemmas.Bool.{and_parts}
 use Rattle.std.specs.List.{list_all}
 

@@ -2,6 +2,7 @@
 use Rattle.std.proofs.Common.{◌≡◌, ℕ, ◌<◌, ◌==◌, ◌&&◌, ◌||◌, Bool, true, false, not, cond, refl, sym, ap, subst, ◌∙◌, inl, inr, arith}
 use Rattle.std.proofs.lemmas.Bool.{cases_lt, and_parts, or_parts, ltb-true, agree_below_at, not-true, cond-true, cond-false}
 use Rattle.std.proofs.lemmas.Bool.Decides.{nat_tests}
+use Rattle.std.specs.Prelude.{nat_lt}
 use Rattle.std.specs.Char.{is_ascii, is_ascii_digit, is_ascii_alphabetic, is_ascii_alphanumeric, is_ascii_lowercase}
 use Rattle.unicode_ident.proofs.IdentLemmas.{is_xid_start-ascii, is_xid_continue-ascii}
 use Rattle.lexer.specs.Words.{is_white_space, may_begin}
@@ -53,6 +54,23 @@ class-Letter c h =
     let dark : is_white_space c ≡ false = grind (arith, nat_tests) in
     let plain : is_ascii_digit c ≡ false = grind (arith, nat_tests) in
     cond-false (is_white_space c) _ _ dark ∙ (cond-false (is_ascii_digit c) _ _ plain ∙ cond-true (may_begin c) _ _ h)
+
+-- an ASCII character with which a name goes on begins one, unless it is a digit
+pub part_begins : (c : ℕ) → (nat_lt c 128 && is_xid_continue c) ≡ true → is_ascii_digit c ≡ false → may_begin c ≡ true
+part_begins c part plain =
+    let (ascii, continues) = and_parts (nat_lt c 128) (is_xid_continue c) part in
+    let small : c < 128 = ltb-true c 128 ascii in
+    let either : (is_ascii_alphanumeric c || (c == 95)) ≡ true = sym (is_xid_continue-ascii c small) ∙ continues in
+    let letter : begins_ascii c ≡ true = grind (arith, nat_tests) in
+    may_begin-ascii c small ∙ letter
+
+-- an ASCII character with which no name goes on begins none, and is no digit
+pub apart_begins : (c : ℕ) → c < 128 → is_xid_continue c ≡ false → (is_ascii_digit c ≡ false) × (may_begin c ≡ false)
+apart_begins c small apart =
+    let neither : (is_ascii_alphanumeric c || (c == 95)) ≡ false = sym (is_xid_continue-ascii c small) ∙ apart in
+    let plain : is_ascii_digit c ≡ false = grind (arith, nat_tests) in
+    let no_letter : begins_ascii c ≡ false = grind (arith, nat_tests) in
+    (plain, may_begin-ascii c small ∙ no_letter)
 
 -- a character that may begin a sign other than `/`
 abbrev pub is_sign_first : ℕ → Bool

@@ -11,5 +11,6 @@ pub mod Cutting
 pub mod Listed
 pub mod Growing
 pub mod Total
+pub mod Keywords
 pub mod Lines
 pub mod Places

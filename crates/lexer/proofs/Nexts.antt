@@ -17,7 +17,8 @@ use Rattle.lexer.specs.declared.token.Kind.{Kind}
 use Rattle.lexer.specs.declared.token.Kind.TheVariants.{Slash, Name}
 use Rattle.lexer.proofs.Letters.{Class, White, Digit, Letter, Solidus, Other, class_of, class-White, class-Digit, class-Letter, class-Solidus}
 use Rattle.lexer.proofs.Fronts.{Front, AfterSolidus, Alone, Line, Block, Unclosed, word_kind, literal_of, shape, nonempty}
-use Rattle.lexer.proofs.Runs.{Stops, run_longest, longer_front, same_front}
+use Rattle.lexer.specs.Scan.{Stops}
+use Rattle.lexer.proofs.Runs.{run_longest, longer_front, same_front}
 use Rattle.common.specs.declared.limits.TheConstants.{MAX_INTEGER}
 
 -- a lexeme at the front of a text that begins with c, where c is of this class

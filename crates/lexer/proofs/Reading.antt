@@ -25,7 +25,8 @@ use Rattle.lexer.specs.declared.token.Kind.TheVariants.{Integer}
 use Rattle.lexer.proofs.Letters.{class_of, Other}
 use Rattle.lexer.proofs.Fronts.{word_kind, literal_of}
 use Rattle.lexer.proofs.Nexts.{next_literal, next_word, next_line, next_block, next_open}
-use Rattle.lexer.proofs.Runs.{Stops, same_before}
+use Rattle.lexer.specs.Scan.{Stops}
+use Rattle.lexer.proofs.Runs.{same_before}
 use Rattle.common.specs.declared.limits.TheConstants.{MAX_INTEGER}
 
 -- a next lexeme, of equal texts

@@ -2,11 +2,7 @@
 use Rattle.std.proofs.Common.{◌≡◌, ℕ, ◌+◌, ◌≤◌, Bool, true, false, List, [], ◌∷◌, ◌++◌, length, refl, sym, ap, subst, ◌∙◌, arith, length-append}
 use Rattle.std.specs.List.{list_all}
 use Rattle.std.proofs.lemmas.Bool.{and_parts, both_ways}
-
--- the list is empty, or its first element fails the test
-abbrev pub Stops : (ℕ → Bool) → List ℕ → Type 0
-Stops p [] = Unit {0}
-Stops p (c ∷ cs) = p c ≡ false
+use Rattle.lexer.specs.Scan.{Stops}
 
 -- a front that passes is no longer than one after which the test fails
 pub run_longest : (p : ℕ → Bool) (a r b m : List ℕ) → Stops p r → list_all p b ≡ true → a ++ r ≡ b ++ m

@@ -10,7 +10,7 @@ use Rattle.std.proofs.lemmas.Slice.Eq.{bytes_eq-Decides}
 use Rattle.lexer.specs.Lexeme.{signs}
 use Rattle.lexer.specs.Scan.{IsNoDouble, IsNoTriple, begins_sign_of, has_front}
 
-abbrev head : List ℕ → ℕ
+abbrev pub head : List ℕ → ℕ
 head word = get_or word 0 0
 
 own_front : (word : List ℕ) → has_front (length word) (head word) word ≡ true
@@ -20,7 +20,7 @@ own_front word =
     ap (λ t. t && nat_eq (head word) (head word)) long ∙ first
 
 -- a text of another front is another text
-unlike : (text word : List ℕ) → has_front (length text) (head text) word ≡ false → bytes_eq text word ≡ false
+pub unlike : (text word : List ℕ) → has_front (length text) (head text) word ≡ false → bytes_eq text word ≡ false
 unlike text word other = by (bytes_eq text word) ((bytes_eq-Decides text word).0)
   where
     by : (b : Bool) → (b ≡ true → text ≡ word) → b ≡ false
@@ -28,7 +28,7 @@ unlike text word other = by (bytes_eq text word) ((bytes_eq-Decides text word).0
     by false same = refl
 
 -- no row has the front of a text, so none is the text
-none_found : {K : Type 0} (text : List ℕ) (rows : List (List ℕ × K)) → list_any (λ row. has_front (length text) (head text) row.0) rows ≡ false
+pub none_found : {K : Type 0} (text : List ℕ) (rows : List (List ℕ × K)) → list_any (λ row. has_front (length text) (head text) row.0) rows ≡ false
     → lookup (bytes_eq text) rows ≡ None
 none_found text [] none = refl
 none_found {K} text (row ∷ rows) none = by (has_front (length text) (head text) row.0) refl none (none_found text rows)

@@ -2,9 +2,8 @@
 -- Source: our own.
 use Rattle.std.specs.Prelude.{◌≡◌, ℕ, ◌==◌, ◌&&◌, ◌||◌, Bool, not, cond, List, [], ◌∷◌, ◌++◌, Option, None, Some, get_or, false, length, nat_eq, nat_lt}
 use Rattle.std.specs.List.{list_any}
-use Rattle.std.specs.Map.{lookup_entry}
 use Rattle.std.specs.Char.{is_ascii_digit}
-use Rattle.lexer.specs.Words.{is_white_space, keywords, may_begin}
+use Rattle.lexer.specs.Words.{is_white_space, may_begin}
 use Rattle.unicode_ident.specs.Ident.{is_xid_continue}
 use Rattle.lexer.specs.Lexeme.{Lexeme, Word, Gap, sign_of, signs}
 use Rattle.lexer.specs.Cut.{IsNextLexeme, IsRefusedFor}
@@ -13,13 +12,6 @@ use Rattle.lexer.specs.declared.fault.LexRefusalKind.{LexRefusalKind}
 use Rattle.lexer.specs.declared.token.Kind.{Kind}
 use Rattle.lexer.specs.declared.pieces.Class.{Class}
 use Rattle.lexer.specs.declared.pieces.Class.TheVariants.{Blank, Digit, NamePart, InLine}
-
--- whether a word has `count` bytes and begins with the byte; the keyword of which that holds
-abbrev pub has_shape : ℕ → ℕ → List ℕ → Bool
-has_shape count first word = nat_eq count (length word) && nat_eq first (get_or word 0 0)
-
-abbrev pub candidate_of : ℕ → ℕ → Option (List ℕ × Kind)
-candidate_of count first = lookup_entry (has_shape count first) keywords
 
 -- whether the character is of the class
 abbrev pub holds : Class → ℕ → Bool
@@ -44,6 +36,11 @@ has_front count c word = nat_eq (length word) count && nat_eq (get_or word 0 0) 
 -- the character begins a sign of this many characters
 abbrev pub begins_sign_of : ℕ → ℕ → Bool
 begins_sign_of count c = list_any (λ row. has_front count c row.0) signs
+
+-- the list is empty, or its first element fails the test
+abbrev pub Stops : (ℕ → Bool) → List ℕ → Type 0
+Stops p [] = Unit {0}
+Stops p (c ∷ cs) = p c ≡ false
 
 -- what follows the longest front that passes
 abbrev pub after_run : (ℕ → Bool) → List ℕ → List ℕ

@@ -9,7 +9,7 @@ ghost use Rattle.std.specs.Prelude.{◌≡◌, ◌≤◌, ◌+◌, List, IfOk, I
 ghost use Rattle.std.specs.List.{All};
 
 use crate::fault::LexFault;
-use crate::pieces::{Piece, cut_piece, skip_blanks, split_first, take_front};
+use crate::pieces::{Piece, cut_piece, skip_blanks, take_front};
 use crate::token::{Kind, Token};
 use common::OrNoMemory;
 use std::alloc::Global;
@@ -39,11 +39,9 @@ pub fn lex(alloc: Global, src: &str) -> Result<Vec<Token<'_>>, LexFault>
     // A token takes three bytes or more of most texts, with the space before it.
     let mut tokens = Vec::with_capacity(alloc, src.len() / 3 + 1)?;
     let mut rest = skip_blanks(src);
-    while let Some((first, after)) = split_first(rest) {
+    while !rest.is_empty() {
         let start = src.len() - rest.len();
-        let Piece { kind, rest: left } = cut_piece(rest, first, after, start).map_err(
-            OrNoMemory::Refused,
-        )?;
+        let Piece { kind, rest: left } = cut_piece(rest, start).map_err(OrNoMemory::Refused)?;
         let front = rest;
         rest = skip_blanks(left);
         if let Some(kind) = kind {

@@ -1,7 +1,6 @@
-ghost use Rattle.lexer.specs.Scan.{candidate_of};
 ghost use Rattle.lexer.specs.Words.{keyword_of, is_name_text, is_identifier, may_begin};
 ghost use Rattle.unicode_ident.specs.Ident.{is_xid_continue};
-ghost use Rattle.std.specs.Prelude.{◌≡◌, option_map};
+ghost use Rattle.std.specs.Prelude.{◌≡◌, None, Some, bytes_eq, cond, length, slice_index};
 ghost use Rattle.std.specs.Str.{chars};
 
 use crate::token::Kind;
@@ -42,7 +41,7 @@ pub(crate) fn continues_name(character: char) -> bool
     unicode_ident::is_xid_continue(character)
 }
 
-/// The kind of the keyword that `text` is, if it is one.
+/// The kind of the keyword that `text` is, if it is one: no two keywords have both their length and their first byte in common.
 #[inline(always)]
 pub(crate) fn find_keyword(text: &str) -> Option<Kind>
     ensures { result ≡ keyword_of text.now }
@@ -50,37 +49,47 @@ pub(crate) fn find_keyword(text: &str) -> Option<Kind>
     let [first, ..] = text.as_bytes() else {
         return None;
     };
-    let (word, kind) = find_candidate(text.len(), *first)?;
-    if text == word { Some(kind) } else { None }
-}
-
-/// The keyword of a length that begins with a byte, if there is one, and its kind: no two keywords have both in common.
-#[inline(always)]
-fn find_candidate(length: usize, first: u8) -> Option<(&'static str, Kind)>
-    ensures { option_map (λ found. (found.0.now, found.1)) result ≡ candidate_of length first }
-{
-    match (length, first) {
-        (7, b'b') => Some(("boolean", Kind::Boolean)),
-        (5, b'b') => Some(("break", Kind::Break)),
-        (5, b'c') => Some(("catch", Kind::Catch)),
-        (8, b'c') => Some(("continue", Kind::Continue)),
-        (4, b'e') => Some(("else", Kind::Else)),
-        (9, b'e') => Some(("exception", Kind::Exception)),
-        (5, b'f') => Some(("false", Kind::False)),
-        (6, b'g') => Some(("global", Kind::Global)),
-        (2, b'i') => Some(("if", Kind::If)),
-        (5, b'i') => Some(("input", Kind::Input)),
-        (3, b'i') => Some(("int", Kind::Int)),
-        (6, b'o') => Some(("output", Kind::Output)),
-        (7, b'r') => Some(("receive", Kind::Receive)),
-        (6, b'r') => Some(("return", Kind::Return)),
-        (4, b's') => Some(("send", Kind::Send)),
-        (5, b't') => Some(("throw", Kind::Throw)),
-        (6, b't') => Some(("throws", Kind::Throws)),
-        (4, b't') => Some(("true", Kind::True)),
-        (3, b't') => Some(("try", Kind::Try)),
-        (4, b'v') => Some(("void", Kind::Void)),
-        (5, b'w') => Some(("while", Kind::While)),
+    match (text.len(), *first) {
+        (7, b'b') => keep(text, "boolean", Kind::Boolean),
+        (5, b'b') => keep(text, "break", Kind::Break),
+        (5, b'c') => keep(text, "catch", Kind::Catch),
+        (8, b'c') => keep(text, "continue", Kind::Continue),
+        (4, b'e') => keep(text, "else", Kind::Else),
+        (9, b'e') => keep(text, "exception", Kind::Exception),
+        (5, b'f') => keep(text, "false", Kind::False),
+        (6, b'g') => keep(text, "global", Kind::Global),
+        (2, b'i') => keep(text, "if", Kind::If),
+        (5, b'i') => keep(text, "input", Kind::Input),
+        (3, b'i') => keep(text, "int", Kind::Int),
+        (6, b'o') => keep(text, "output", Kind::Output),
+        (7, b'r') => keep(text, "receive", Kind::Receive),
+        (6, b'r') => keep(text, "return", Kind::Return),
+        (4, b's') => keep(text, "send", Kind::Send),
+        (5, b't') => keep(text, "throw", Kind::Throw),
+        (6, b't') => keep(text, "throws", Kind::Throws),
+        (4, b't') => keep(text, "true", Kind::True),
+        (3, b't') => keep(text, "try", Kind::Try),
+        (4, b'v') => keep(text, "void", Kind::Void),
+        (5, b'w') => keep(text, "while", Kind::While),
         _ => None,
     }
+}
+
+/// The kind, if the text is this word, which is as long and has the same first byte.
+#[inline(always)]
+fn keep(text: &str, word: &str, kind: Kind) -> Option<Kind>
+    requires long { length text.now ≡ length word.now }
+    requires first { slice_index text.now 0 ≡ slice_index word.now 0 }
+    ensures { result ≡ cond (bytes_eq text.now word.now) (Some kind) None }
+{
+    let bytes = text.as_bytes();
+    let wanted = word.as_bytes();
+    let mut at = 1;
+    while at < wanted.len() {
+        if bytes[at] != wanted[at] {
+            return None;
+        }
+        at += 1;
+    }
+    Some(kind)
 }

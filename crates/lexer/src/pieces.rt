@@ -1,10 +1,12 @@
 //! The next lexeme of a text. A private part of the lexer.
 ghost use Rattle.lexer.specs.Cut.{IsRefusedFor};
 ghost use Rattle.lexer.specs.Lexeme.{sign_of};
-ghost use Rattle.lexer.specs.Scan.{holds, after_run, after_close, begins_sign, begins_sign_of, IsStopped, IsDouble, IsNoDouble, IsTriple, IsNoTriple, IsTail, Reads, IsStuck};
+ghost use Rattle.lexer.specs.Scan.{holds, after_run, after_close, begins_sign, begins_sign_of, IsStopped, IsDouble, IsNoDouble, IsTriple, IsNoTriple, IsTail, Reads, IsStuck, Stops};
+ghost use Rattle.lexer.specs.declared.pieces.Class.TheVariants.{NamePart};
+ghost use Rattle.unicode_ident.specs.Ident.{is_xid_continue};
 ghost use Rattle.lexer.specs.declared.fault.LexRefusalKind.TheVariants.{NoToken};
 ghost use Rattle.lexer.specs.Words.{is_white_space, may_begin};
-ghost use Rattle.std.specs.Prelude.{◌≡◌, ◌&&◌, ◌++◌, ◌∷◌, [], IfSome, MatchResult, MatchOption, IsTrue, Some, None, false, nat_lt};
+ghost use Rattle.std.specs.Prelude.{◌≡◌, ◌<◌, ◌&&◌, ◌++◌, ◌∷◌, ◌==◌, [], IfSome, MatchResult, MatchOption, IsTrue, Some, None, false, length, nat_lt, not, slice_index};
 ghost use Rattle.std.specs.Char.{is_ascii_digit};
 ghost use Rattle.std.specs.Str.{chars};
 
@@ -18,6 +20,62 @@ use common::limits::MAX_INTEGER;
 pub(crate) struct Piece<'a> {
     pub(crate) kind: Option<Kind>,
     pub(crate) rest: &'a str,
+}
+
+// 1 at each byte that is white space
+#[rattlefmt::skip]
+static BLANKS: [u8; 256] = [
+    0, 0, 0, 0, 0, 0, 0, 0, 0, 1, 1, 0, 0, 1, 0, 0,
+    0, 0, 0, 0, 0, 0, 0, 0, 0, 0, 0, 0, 0, 0, 0, 0,
+    1, 0, 0, 0, 0, 0, 0, 0, 0, 0, 0, 0, 0, 0, 0, 0,
+    0, 0, 0, 0, 0, 0, 0, 0, 0, 0, 0, 0, 0, 0, 0, 0,
+    0, 0, 0, 0, 0, 0, 0, 0, 0, 0, 0, 0, 0, 0, 0, 0,
+    0, 0, 0, 0, 0, 0, 0, 0, 0, 0, 0, 0, 0, 0, 0, 0,
+    0, 0, 0, 0, 0, 0, 0, 0, 0, 0, 0, 0, 0, 0, 0, 0,
+    0, 0, 0, 0, 0, 0, 0, 0, 0, 0, 0, 0, 0, 0, 0, 0,
+    0, 0, 0, 0, 0, 0, 0, 0, 0, 0, 0, 0, 0, 0, 0, 0,
+    0, 0, 0, 0, 0, 0, 0, 0, 0, 0, 0, 0, 0, 0, 0, 0,
+    0, 0, 0, 0, 0, 0, 0, 0, 0, 0, 0, 0, 0, 0, 0, 0,
+    0, 0, 0, 0, 0, 0, 0, 0, 0, 0, 0, 0, 0, 0, 0, 0,
+    0, 0, 0, 0, 0, 0, 0, 0, 0, 0, 0, 0, 0, 0, 0, 0,
+    0, 0, 0, 0, 0, 0, 0, 0, 0, 0, 0, 0, 0, 0, 0, 0,
+    0, 0, 0, 0, 0, 0, 0, 0, 0, 0, 0, 0, 0, 0, 0, 0,
+    0, 0, 0, 0, 0, 0, 0, 0, 0, 0, 0, 0, 0, 0, 0, 0,
+];
+
+// 1 at each byte that is an ASCII character with which a name goes on
+#[rattlefmt::skip]
+static NAME_PARTS: [u8; 256] = [
+    0, 0, 0, 0, 0, 0, 0, 0, 0, 0, 0, 0, 0, 0, 0, 0,
+    0, 0, 0, 0, 0, 0, 0, 0, 0, 0, 0, 0, 0, 0, 0, 0,
+    0, 0, 0, 0, 0, 0, 0, 0, 0, 0, 0, 0, 0, 0, 0, 0,
+    1, 1, 1, 1, 1, 1, 1, 1, 1, 1, 0, 0, 0, 0, 0, 0,
+    0, 1, 1, 1, 1, 1, 1, 1, 1, 1, 1, 1, 1, 1, 1, 1,
+    1, 1, 1, 1, 1, 1, 1, 1, 1, 1, 1, 0, 0, 0, 0, 1,
+    0, 1, 1, 1, 1, 1, 1, 1, 1, 1, 1, 1, 1, 1, 1, 1,
+    1, 1, 1, 1, 1, 1, 1, 1, 1, 1, 1, 0, 0, 0, 0, 0,
+    0, 0, 0, 0, 0, 0, 0, 0, 0, 0, 0, 0, 0, 0, 0, 0,
+    0, 0, 0, 0, 0, 0, 0, 0, 0, 0, 0, 0, 0, 0, 0, 0,
+    0, 0, 0, 0, 0, 0, 0, 0, 0, 0, 0, 0, 0, 0, 0, 0,
+    0, 0, 0, 0, 0, 0, 0, 0, 0, 0, 0, 0, 0, 0, 0, 0,
+    0, 0, 0, 0, 0, 0, 0, 0, 0, 0, 0, 0, 0, 0, 0, 0,
+    0, 0, 0, 0, 0, 0, 0, 0, 0, 0, 0, 0, 0, 0, 0, 0,
+    0, 0, 0, 0, 0, 0, 0, 0, 0, 0, 0, 0, 0, 0, 0, 0,
+    0, 0, 0, 0, 0, 0, 0, 0, 0, 0, 0, 0, 0, 0, 0, 0,
+];
+
+#[inline(always)]
+fn is_blank(byte: u8) -> bool
+    ensures { result ≡ (nat_lt byte 128 && is_white_space byte) }
+{
+    BLANKS[usize::from(byte)] == 1
+}
+
+#[inline(always)]
+fn is_name_part(byte: u8) -> bool
+    ensures { result ≡ (nat_lt byte 128 && is_xid_continue byte) }
+{
+    NAME_PARTS[usize::from(byte)] == 1
 }
 
 /// The characters of a run.
@@ -44,34 +102,77 @@ impl Class {
     fn holds_byte(self, byte: u8) -> bool
         ensures { result ≡ (nat_lt byte 128 && holds self byte) }
     {
-        byte.is_ascii() && self.holds(byte as char)
+        match self {
+            Class::Blank => is_blank(byte),
+            Class::NamePart => is_name_part(byte),
+            _ => byte.is_ascii() && self.holds(byte as char),
+        }
     }
 }
 
-/// The next lexeme of `text`, which begins with `first` and goes on with `after`, at the byte `at`, and not with white space.
-pub(crate) fn cut_piece<'a>(
-    text: &'a str,
-    first: char,
-    after: &'a str,
-    at: usize,
-) -> Result<Piece<'a>, LexRefusal>
-    requires split { chars text.now ≡ first ∷ chars after.now }
-    requires dark { is_white_space first ≡ false }
+/// The next lexeme of `text`, which goes on, but not with white space, at the byte `at`.
+#[inline(always)]
+pub(crate) fn cut_piece(text: &str, at: usize) -> Result<Piece<'_>, LexRefusal>
+    requires goes_on { 0 < length text.now }
+    requires dark { Stops is_white_space (chars text.now) }
     ensures { MatchResult result (λ piece. Reads (chars text.now) piece.kind (chars piece.rest.now))
         (IsStuck at (chars text.now)) }
 {
-    if first.is_ascii_digit() {
-        cut_literal(text, first, after, at)
-    } else if begins_name(first) {
-        Ok(cut_word(text, first, after))
-    } else if first == '/' {
-        cut_solidus(text, after, at)
-    } else {
-        cut_sign(text, first, after).ok_or(LexRefusal {
-            kind: LexRefusalKind::NoToken,
-            at,
-        })
+    let byte = text.as_bytes()[0];
+    if is_name_part(byte) {
+        let after = pass_ascii(text);
+        return if byte.is_ascii_digit() {
+            cut_literal(text, byte as char, after, at)
+        } else {
+            Ok(cut_word(text, byte as char, after))
+        };
     }
+    match kind_of_short(byte as char) {
+        Some(kind) => Ok(Piece {
+            kind: Some(kind),
+            rest: pass_ascii(text),
+        }),
+        None => cut_other(text, at),
+    }
+}
+
+/// What follows the first byte of `text`, which is ASCII.
+#[inline(always)]
+fn pass_ascii(text: &str) -> &str
+    requires goes_on { 0 < length text.now }
+    requires ascii { slice_index text.now 0 < 128 }
+    ensures { chars text.now ≡ slice_index text.now 0 ∷ chars result.now }
+{
+    let (_, rest) = text.split_at(1);
+    rest
+}
+
+/// The same, where no ASCII letter or digit stands at the front, nor a sign with which no longer one begins.
+#[inline(always)]
+fn cut_other(text: &str, at: usize) -> Result<Piece<'_>, LexRefusal>
+    requires goes_on { 0 < length text.now }
+    requires dark { Stops is_white_space (chars text.now) }
+    requires apart { IsStopped NamePart text.now }
+    ensures { MatchResult result (λ piece. Reads (chars text.now) piece.kind (chars piece.rest.now))
+        (IsStuck at (chars text.now)) }
+{
+    let refusal = LexRefusal {
+        kind: LexRefusalKind::NoToken,
+        at,
+    };
+    match split_first(text) {
+        Some(('/', after)) => cut_solidus(text, after, at),
+        Some((first, after)) if begins_far_name(first) => Ok(cut_far_word(text, first, after)),
+        Some((first, after)) => cut_sign(text, first, after).ok_or(refusal),
+        None => Err(refusal),
+    }
+}
+
+/// Whether a character beyond ASCII may begin a name.
+fn begins_far_name(character: char) -> bool
+    ensures { result ≡ (not (nat_lt character 128) && may_begin character) }
+{
+    !character.is_ascii() && begins_name(character)
 }
 
 fn is_white_space(character: char) -> bool
@@ -106,6 +207,7 @@ fn cut_literal<'a>(
 }
 
 /// A keyword or a name.
+#[inline(always)]
 fn cut_word<'a>(text: &'a str, first: char, after: &'a str) -> Piece<'a>
     requires split { chars text.now ≡ first ∷ chars after.now }
     requires begins { IsTrue (may_begin first) }
@@ -117,6 +219,16 @@ fn cut_word<'a>(text: &'a str, first: char, after: &'a str) -> Piece<'a>
         kind: Some(kind),
         rest,
     }
+}
+
+/// The same, for names that are rare.
+#[inline(never)]
+fn cut_far_word<'a>(text: &'a str, first: char, after: &'a str) -> Piece<'a>
+    requires split { chars text.now ≡ first ∷ chars after.now }
+    requires begins { IsTrue (may_begin first) }
+    ensures { Reads (chars text.now) result.kind (chars result.rest.now) }
+{
+    cut_word(text, first, after)
 }
 
 /// A comment, or the sign `/`.
@@ -152,12 +264,6 @@ fn cut_sign<'a>(text: &'a str, first: char, after: &'a str) -> Option<Piece<'a>>
     ensures { MatchOption result (IsRefusedFor (chars text.now) NoToken)
         (λ piece. Reads (chars text.now) piece.kind (chars piece.rest.now)) }
 {
-    if let Some(kind) = kind_of_short(first) {
-        return Some(Piece {
-            kind: Some(kind),
-            rest: after,
-        });
-    }
     if let Some((kind, rest)) = cut_triple_sign(first, after) {
         return Some(Piece {
             kind: Some(kind),
@@ -248,6 +354,7 @@ fn kind_of_short(character: char) -> Option<Kind>
     ensures sign { IfSome result (λ kind. sign_of (character ∷ []) ≡ Some kind) }
     ensures alone { IfSome result (λ _. begins_sign_of 2 character ≡ false) }
     ensures single { IfSome result (λ _. begins_sign_of 3 character ≡ false) }
+    ensures no_solidus { IfSome result (λ _. (character == 47) ≡ false) }
 {
     match character {
         '{' => Some(Kind::OpenBrace),
@@ -298,7 +405,7 @@ fn kind_of_sign(character: char) -> Option<Kind>
 }
 
 /// The first character of `text`, and what follows it.
-pub(crate) fn split_first(text: &str) -> Option<(char, &str)>
+fn split_first(text: &str) -> Option<(char, &str)>
     ensures { MatchOption result (text.now ≡ []) (λ split. chars text.now ≡ split.0 ∷ chars
         split.1.now) }
 {
@@ -365,10 +472,11 @@ fn skip_characters(text: &str, class: Class) -> &str
 pub(crate) fn skip_blanks(text: &str) -> &str
     ensures { chars result.now ≡ after_run is_white_space (chars text.now) }
 {
-    skip_run(text, Class::Blank)
+    skip_ascii(text, Class::Blank)
 }
 
 /// What follows the first `*/` of `text`.
+#[inline(never)]
 fn skip_comment(text: &str) -> Option<&str>
     ensures { MatchOption result (after_close false (chars text.now) ≡ None)
         (λ rest. after_close false (chars text.now) ≡ Some (chars rest.now)) }

@@ -6,6 +6,7 @@ use Rattle.std.specs.Option.{option_map}
 use Rattle.std.proofs.lemmas.Bool.{ltb-true, ltb-false}
 use Rattle.std.proofs.lemmas.List.{get_or_past, get_or-set_same, get_or-set_other, length-map}
 use Rattle.std.proofs.lemmas.List.Elements.{All-map}
+use Rattle.std.proofs.lemmas.List.Folds.{map_fixed}
 use Rattle.std.proofs.lemmas.Option.{slice_get_past, slice_get_within, slice_get-map, get_or_from_slice_get}
 use Rattle.modules.specs.declared.instruction.Instruction.{Instruction}
 use Rattle.modules.specs.declared.instruction.Instruction.TheVariants.{Jump, JumpIfFalse}
@@ -130,6 +131,21 @@ threaded-direct code forward =
     by (Some target) =
         ap jump_of (slice_get-map (renamed_instruction (final_position code)) code (final_position code target))
         ∙ jump-renamed (final_position code) (slice_get code (final_position code target)) (followed-stops code (length code) target forward (omega arith))
+
+-- ---- code that no jump of which leads to a jump stays as it is
+
+followed-none : (code : List Instruction) (jumps position : ℕ) → jump_of (slice_get code position) ≡ None → followed jumps code position ≡ position
+followed-none code zero position none = refl
+followed-none code (suc jumps) position none = ap (onward position (followed jumps code)) none
+
+direct-same : (code : List Instruction) (i : Instruction) → IsDirect code i → renamed_instruction (final_position code) i ≡ i
+direct-same code (Jump target) direct = ap (λ n. Jump n) (followed-none code (length code) target direct)
+direct-same code (JumpIfFalse target) direct = ap (λ n. JumpIfFalse n) (followed-none code (length code) target direct)
+direct-same code i direct = refl
+
+pub threaded-same : (code : List Instruction) → All (IsDirect code) code → threaded code ≡ code
+threaded-same code direct =
+    map_fixed (renamed_instruction (final_position code)) code (λ k d below. direct-same code (get_or code k d) (direct k d below))
 
 -- ---- the table of final positions, which is filled from its end
 

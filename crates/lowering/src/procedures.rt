@@ -33,7 +33,7 @@ fn slots_of(alloc: Global, slots: &[tables::Slot]) -> Result<Vec<Slot>, AllocErr
     ensures { (labels : List Label) → IfOk result (λ made.
         made.items ≡ map slot_contents (map (slot_entry labels) slots.now)) }
 {
-    let mut made = Vec::new(alloc);
+    let mut made = Vec::with_capacity(alloc, slots.len())?;
     for slot in slots {
         made.push(declared_slot(slot.base, slot.size))?;
     }
@@ -57,10 +57,12 @@ fn push_end(code: &mut Vec<Instruction>, falls: bool) -> Result<(), AllocError>
     Ok(())
 }
 
-/// The procedure of a graph for a procedure of a program.
+/// The procedure of a graph for a procedure of a program. Its code is first put where that of others was, so that no list grows anew for
+/// each procedure.
 fn procedure_of(
     alloc: Global,
     core: &Core,
+    code: &mut Vec<Instruction>,
     procedure: &tables::Procedure,
 ) -> Result<Procedure, AllocError>
     requires { block_size (program_of core.now) (block_of procedure.now.body.items) + 1 < 2 ^ 32 }
@@ -68,11 +70,11 @@ fn procedure_of(
         (procedure_entry core.now.labels procedure.now)) }
 {
     let outside = LoopPositions { beyond: 0, test: 0 };
-    let mut code = Vec::new(alloc);
     let mut handlers = Vec::new(alloc);
-    push_block(core, outside, &mut code, &mut handlers, &procedure.body)?;
-    push_end(&mut code, block_falls(&procedure.body))?;
-    let code = thread(alloc, &code)?;
+    code.clear();
+    push_block(core, outside, code, &mut handlers, &procedure.body)?;
+    push_end(code, block_falls(&procedure.body))?;
+    let code = thread(alloc, code)?;
     let returned = returned_kind(&procedure.result);
     let slots = slots_of(alloc, &procedure.slots)?;
     Ok(Procedure::new(returned, procedure.parameters, slots, code, handlers))
@@ -83,9 +85,10 @@ pub(crate) fn procedures_of(alloc: Global, core: &Core) -> Result<Vec<Procedure>
     ensures { IfOk result (λ made. made.items
         ≡ map (procedure_contents (program_of core.now)) (program_of core.now).procedures) }
 {
-    let mut made = Vec::new(alloc);
+    let mut code = Vec::new(alloc);
+    let mut made = Vec::with_capacity(alloc, core.procedures.len())?;
     for procedure in &core.procedures {
-        made.push(procedure_of(alloc, core, procedure)?)?;
+        made.push(procedure_of(alloc, core, &mut code, procedure)?)?;
     }
     Ok(made)
 }

@@ -1,11 +1,33 @@
 //! Jump threading: a jump to an unconditional jump goes at once where that one leads in the end.
 ghost use Rattle.modules.specs.Targets.{renamed_instruction};
-ghost use Rattle.lowering.specs.Direct.{jump_of};
+ghost use Rattle.lowering.specs.Direct.{IsDirect, jump_of};
 ghost use Rattle.lowering.specs.Threaded.{final_position, onward, threaded};
-ghost use Rattle.std.specs.Prelude.{IfOk, Some, get_or, length, ◌<◌, ◌^◌, ◌≡◌, ℕ};
+ghost use Rattle.std.specs.Prelude.{All, IfOk, IsTrue, Some, get_or, length, ◌<◌, ◌^◌, ◌≡◌, ℕ};
 
 use modules::Instruction;
 use std::alloc::{AllocError, Global};
+
+/// Whether no unconditional jump stands where an instruction may jump to.
+fn is_direct(code: &[Instruction], instruction: Instruction) -> bool
+    ensures { IsTrue result → IsDirect code.now instruction }
+{
+    match instruction.target() {
+        None => true,
+        Some(target) => !matches!(code.get(target as usize), Some(Instruction::Jump(_))),
+    }
+}
+
+/// Whether no jump of the code leads to an unconditional jump, so that each goes where it does at once.
+fn has_direct_jumps(code: &[Instruction]) -> bool
+    ensures { IsTrue result → All (IsDirect code.now) code.now }
+{
+    for instruction in code {
+        if !is_direct(code, *instruction) {
+            return false;
+        }
+    }
+    true
+}
 
 /// The final position of an instruction; one after the code is its own.
 fn position_in(finals: &[u32], position: u32) -> u32
@@ -63,8 +85,11 @@ pub(crate) fn thread(alloc: Global, code: &[Instruction]) -> Result<Vec<Instruct
     requires { length code.now < 2 ^ 32 }
     ensures { IfOk result (λ made. made.items ≡ threaded code.now) }
 {
+    if has_direct_jumps(code) {
+        return Vec::from_slice(alloc, code);
+    }
     let finals = find_final_positions(alloc, code)?;
-    let mut made = Vec::new(alloc);
+    let mut made = Vec::with_capacity(alloc, code.len())?;
     for instruction in code {
         made.push(thread_instruction(&finals, *instruction))?;
     }

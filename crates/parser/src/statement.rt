@@ -36,7 +36,8 @@ pub enum After<'a> {
 }
 
 /// Puts a statement after the others of its block. After the last one no room is kept for more, and a long list grows fourfold, so that
-/// fewer of its statements are moved.
+/// fewer of its statements are moved. Not in line, so that a statement is moved as a whole.
+#[inline(never)]
 fn push_statement<'a>(
     statements: &mut Vec<Statement<'a>>,
     statement: Statement<'a>,

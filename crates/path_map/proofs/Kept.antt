@@ -290,3 +290,11 @@ room-kept rows given is some = rw is (record { there = some; summary = refl })
 
 pub no-row : (rows : List KeptRow) (set : ℕ → Bool) (summary : Raised) → 0 < length rows → (summary ≡ Several → ⊥) → IsRowFor set summary rows 0
 no-row rows set summary some none = record { there = some; same = λ several. absurd (none several) }
+
+abbrev is_several : Raised → Bool
+is_several Nothing = false
+is_several (One e) = false
+is_several Several = true
+
+pub not-several : Nothing ≡ Several → ⊥
+not-several same = let no : false ≡ true = ap is_several same in absurd (cc)

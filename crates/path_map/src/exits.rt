@@ -175,10 +175,27 @@ impl Exits {
         }
     }
 
-    /// The possible exit, where there is one only.
+    /// The possible exit, where there is one only. Most statements have the normal exit only.
+    #[inline(always)]
+    pub fn single(self) -> Option<Exit>
+        ensures { (ends : List Exit) → self ≡ exits_of ends → result ≡ single_exit ends }
+    {
+        match (
+            self.normal,
+            self.returns,
+            self.breaks,
+            self.continues,
+            self.raised,
+        ) {
+            (true, false, false, false, Raised::Nothing) => Some(Exit::Normal),
+            _ => self.single_by_fields(),
+        }
+    }
+
+    // The possible exit, where there is one only, whichever it is.
     // A call, since the fields are taken out of one word bit by bit where this stands inside another function.
     #[inline(never)]
-    pub fn single(self) -> Option<Exit>
+    fn single_by_fields(self) -> Option<Exit>
         ensures { (ends : List Exit) → self ≡ exits_of ends → result ≡ single_exit ends }
     {
         match (

@@ -4,11 +4,11 @@ ghost use Rattle.path_map.specs.Exceptions.{AreRaised, is_one_of, raised_list};
 ghost use Rattle.path_map.specs.Joins.{raises_some};
 ghost use Rattle.path_map.specs.Sets.{IsSum, members};
 ghost use Rattle.common.specs.declared.exceptions.TheConstants.{BUILT_IN};
-ghost use Rattle.resolved.specs.Exits.{divisor_can_raise, index_can_raise, is_division, raises};
+ghost use Rattle.resolved.specs.Exits.{divisor_can_raise, index_can_raise, index_raises, is_division, raises};
 ghost use Rattle.resolved.specs.TreeOf.{expression_of, some_expression_of};
 ghost use Rattle.resolved.specs.Value.{in_range, literal_number};
 ghost use Rattle.common.specs.Integers.{is_zero};
-ghost use Rattle.std.specs.Prelude.{IfOk, OnOk, map, ℕ, ◌||◌, ◌≡◌, ◌≤◌, flat_map};
+ghost use Rattle.std.specs.Prelude.{IfOk, OnOk, map, ℕ, ◌++◌, ◌||◌, ◌≡◌, ◌≤◌, flat_map};
 
 use crate::exits::Raised;
 use crate::members::ExceptionSet;
@@ -90,6 +90,19 @@ pub fn raises_of(expression: &Expression) -> Raises
         }
         Expression::Short(_, operands) => raises_of(&operands.0).or(raises_of(&operands.1)),
     }
+}
+
+// What a store into an array of this length can raise.
+pub(crate) fn raises_of_store(length: u32, index: &Expression, value: &Expression) -> Raises
+    ensures { AreRaised result (raises (expression_of index.now)
+        ++ raises (expression_of value.now)
+        ++ index_raises (expression_of index.now) length) }
+{
+    let access = Raises {
+        arith: false,
+        bounds: index_can_raise(index, length),
+    };
+    raises_of(index).or(raises_of(value)).or(access)
 }
 
 // What an expression can raise, if there is one.

@@ -56,8 +56,23 @@ impl RecentRows {
         })
     }
 
-    // Notes the row of a statement or block, if it has one.
+    // Notes the row of a statement or block, if it has one or is a call. Most have none and are none.
+    #[inline(always)]
     pub(crate) fn note(
+        &mut self,
+        at: usize,
+        call: Option<(u32, Raises)>,
+        row: usize,
+    ) -> Result<(), AllocError> {
+        if row == 0 && call.is_none() {
+            return Ok(());
+        }
+        self.note_row(at, call, row)
+    }
+
+    // Notes the row of a statement or block that has one or is a call.
+    #[inline(never)]
+    fn note_row(
         &mut self,
         at: usize,
         call: Option<(u32, Raises)>,

@@ -22,6 +22,7 @@ impl ExceptionSet {
         }
     }
 
+    #[inline(never)]
     pub(crate) fn insert(&mut self, exception: u32) -> Result<(), AllocError>
         requires { exception < self.old.bound }
         ensures bound { self.new.bound ≡ self.old.bound }
@@ -69,6 +70,7 @@ impl ExceptionSet {
         true
     }
 
+    #[inline(always)]
     pub(crate) fn unite(&mut self, other: &ExceptionSet) -> Result<(), AllocError>
         requires { other.now.bound ≡ self.old.bound }
         ensures bound { self.new.bound ≡ self.old.bound }
@@ -82,6 +84,8 @@ impl ExceptionSet {
         }
     }
 
+    // A call, since few statements have several exceptions.
+    #[inline(never)]
     fn unite_row(&mut self, row: &Row) -> Result<(), AllocError>
         requires { length row.now ≡ self.old.bound }
         ensures bound { self.new.bound ≡ self.old.bound }

@@ -6,7 +6,7 @@ ghost use Rattle.path_map.specs.Exits.{exits_of};
 ghost use Rattle.path_map.specs.Sets.{members};
 ghost use Rattle.resolved.specs.Exits.{has_exit};
 ghost use Rattle.resolved.specs.declared.statement.Exit.{Exit};
-ghost use Rattle.std.specs.Prelude.{IfOk, OnOk, IsTrue, [], length, slice_index_or, ◌++◌, ◌<◌, ◌∷◌, ◌≡◌};
+ghost use Rattle.std.specs.Prelude.{IfOk, OnOk, IsTrue, [], false, length, slice_index_or, ◌++◌, ◌<◌, ◌∷◌, ◌≡◌};
 
 use crate::exits::{ExceptionMap, Exits, PathMap, Raised};
 use crate::keeping::{KeptForm, KeptRow, row_has};
@@ -129,6 +129,18 @@ impl Ends {
         Ok(())
     }
 
+    // Writes an entry: exits without exceptions, of what is no call.
+    #[inline(always)]
+    pub(crate) fn put_plain(&mut self, at: usize, exits: Exits)
+        requires { at < length self.old }
+        ensures { IsEntryWritten at exits (λ _. false) self.old self.new }
+    {
+        self.entries[at] = ExitsEntry {
+            exits: exits.with(Raised::Nothing),
+            row: 0,
+        };
+    }
+
     /// How many statements and blocks there are.
     pub fn len(&self) -> usize
         ensures { result ≡ length self.now }
@@ -187,6 +199,7 @@ fn path_map_of<'a>(rows: &'a [KeptRow], entry: ExitsEntry) -> PathMap<bool, Exce
 
 // The number of a row for a set with this summary, of the statement or block with a number, which may be a call: of one of its
 // exceptions, if they are several.
+#[inline(always)]
 fn row_of(
     rows: &mut Vec<KeptRow>,
     set: ExceptionSet,
@@ -202,9 +215,23 @@ fn row_of(
     match summary {
         Raised::Nothing => Ok(0),
         Raised::One(_) => Ok(0),
-        Raised::Several => {
-            let nearby = recent.nearby(set.alloc, at, call)?;
-            keep(set.alloc, rows, set, &nearby)
-        }
+        Raised::Several => keep_several(rows, set, recent, at, call),
     }
+}
+
+// The number of a row with the exceptions of a set, of the statement or block with a number, which may be a call.
+// A call, since few statements have several exceptions.
+#[inline(never)]
+fn keep_several(
+    rows: &mut Vec<KeptRow>,
+    set: ExceptionSet,
+    recent: &mut RecentRows,
+    at: usize,
+    call: Option<(u32, Raises)>,
+) -> Result<usize, AllocError>
+    ensures kept { IfOk result (IsRowOfSet (members set) rows.new.items) }
+    ensures grown { RowsGrow rows.old.items rows.new.items }
+{
+    let nearby = recent.nearby(set.alloc, at, call)?;
+    keep(set.alloc, rows, set, &nearby)
 }

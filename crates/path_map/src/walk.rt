@@ -6,6 +6,7 @@ ghost use Rattle.path_map.specs.Sets.{members};
 ghost use Rattle.path_map.specs.Walks.{AreHandlersFound, AreLeft, AreThrown, BlockFits, HandlersFit, IsBlockFound, IsFormFound, IsFoundAlone, StatementFits, faults_of_block, faults_of_handlers, faults_within};
 ghost use Rattle.common.specs.declared.fault.OrNoMemory.TheVariants.{Refused};
 ghost use Rattle.resolved.specs.FaultParts.{may_stand};
+ghost use Rattle.resolved.specs.declared.program.Core.{Core};
 ghost use Rattle.resolved.specs.CoreOf.{program_of};
 ghost use Rattle.resolved.specs.Exits.{declared_by, raises, thrown_exits};
 ghost use Rattle.resolved.specs.Program.{procedure_at};
@@ -13,13 +14,13 @@ ghost use Rattle.resolved.specs.TreeOf.{expression_of, handlers_of, statement_of
 ghost use Rattle.common.specs.declared.exceptions.TheConstants.{BUILT_IN, END};
 ghost use Rattle.resolved.specs.declared.statement.Exit.{Exit};
 ghost use Rattle.resolved.specs.declared.statement.Exit.TheVariants.{Normal, Return, Throw};
-ghost use Rattle.std.specs.Prelude.{IfErr, IfOk, List, OnOk, [], length, ℕ, ◌++◌, ◌<◌, ◌∷◌, ◌≡◌, ◌≤◌};
+ghost use Rattle.std.specs.Prelude.{Bool, IfErr, IfOk, IfSome, List, OnOk, [], length, ℕ, ◌++◌, ◌<◌, ◌∷◌, ◌≡◌, ◌≤◌};
 
 use crate::calls::EndsWalk;
 use crate::exits::{Exits, Raised};
 use crate::fault::EndFault;
 use crate::members::ExceptionSet;
-use crate::raises::{Raises, index_can_raise, raises_of, raises_of_all, raises_of_some};
+use crate::raises::{Raises, raises_of, raises_of_all, raises_of_some, raises_of_store};
 use crate::table::Ends;
 use common::OrNoMemory;
 use common::exceptions::END;
@@ -58,6 +59,11 @@ pub(crate) fn walk_block(
             return Err(refuse(ExitRefusalKind::Unreachable, statement.at()));
         }
         let place = table.reserve()?;
+        if let Some(found) = plain_exits(statement) {
+            table.put_plain(place, found);
+            exits = exits.then(found);
+            continue;
+        }
         let mut inner = ExceptionSet::new(walk.alloc, walk.bound);
         let found = walk_form(walk, in_loop, statement, table, &mut inner)?;
         own.unite(&inner)?;
@@ -91,11 +97,7 @@ fn walk_form(
         Statement::Assign(_, _, value) => Ok(go_on(raises_of(value), raised)?),
         Statement::Clear(_, _) => Ok(go_on(Raises::NONE, raised)?),
         Statement::Store(_, _, length, index, value) => {
-            let access = Raises {
-                arith: false,
-                bounds: index_can_raise(index, *length),
-            };
-            Ok(go_on(raises_of(index).or(raises_of(value)).or(access), raised)?)
+            Ok(go_on(raises_of_store(*length, index, value), raised)?)
         }
         Statement::Receive(_, _, _) => Ok(receive(raised)?),
         Statement::Send(_, _, value) => Ok(go_on(raises_of(value), raised)?),
@@ -162,6 +164,40 @@ fn walk_handlers(
     Ok(exits)
 }
 
+// The exits of a statement that raises nothing and has no block in it, where that is seen at once. Most statements are so, and no set is
+// needed for them.
+fn plain_exits(statement: &Statement) -> Option<Exits>
+    ensures found { IfSome result (λ exits. (core : Core) (entries : List (List Exit))
+        (had : ℕ → Bool) → IsFormFound core statement.now entries entries had had exits) }
+    ensures accepted { IfSome result (λ _. (core : Core) (in_loop : Bool) →
+        faults_within core in_loop statement.now ≡ []) }
+{
+    match statement {
+        Statement::Assign(_, _, value) => going_on(raises_of(value)),
+        Statement::Clear(_, _) => going_on(Raises::NONE),
+        Statement::Store(_, _, length, index, value) => {
+            going_on(raises_of_store(*length, index, value))
+        }
+        Statement::Send(_, _, value) => going_on(raises_of(value)),
+        _ => None,
+    }
+}
+
+// The exits of a statement that goes on and raises these exceptions, if they are none.
+fn going_on(found: Raises) -> Option<Exits>
+    ensures { IfSome result (λ exits. (exceptions : List ℕ) (had : ℕ → Bool) →
+        AreRaised found exceptions →
+        IsFoundAlone (Normal ∷ thrown_exits exceptions) had had exits) }
+{
+    if found.arith {
+        return None;
+    }
+    if found.bounds {
+        return None;
+    }
+    Some(Exits::go_on_or_raise(Raised::Nothing))
+}
+
 // Of a call, its callee and what its arguments raise.
 fn call_of(statement: &Statement) -> Option<(u32, Raises)> {
     match statement {
@@ -214,6 +250,7 @@ fn receive(raised: &mut ExceptionSet) -> Result<Exits, AllocError>
 }
 
 // The exits of a call, with arguments that can raise these exceptions.
+#[inline(never)]
 fn call(
     walk: &EndsWalk,
     callee: u32,

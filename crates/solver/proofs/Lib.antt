@@ -1,3 +1,4 @@
+pub mod Alone
 pub mod Bits
 pub mod Breaking
 pub mod Candidates

@@ -1,15 +1,20 @@
 -- Private: No public clause cites it. Constraints that wait, each once: which do, and in which order.
 -- Source: our own.
-use Rattle.std.specs.Prelude.{◌≡◌, ℕ, ◌+◌, ◌≤◌, List, [], ◌∷◌, length, set, Bool, false, IsTrue, Option, Some, None, slice_index_or, slice_get, Contains, ◌⊎◌}
+use Rattle.std.specs.Prelude.{◌≡◌, ℕ, ◌+◌, ◌≤◌, List, [], ◌∷◌, ◌++◌, length, drop, set, Bool, false, IsTrue, Option, Some, None, slice_index_or, slice_get, Contains, ◌⊎◌}
 use Rattle.solver.specs.Reach.{edge}
 use Rattle.solver.specs.Looks.{count_of}
 use Rattle.solver.specs.declared.edges.Edge.{Edge}
 use Rattle.solver.specs.declared.constraints.Atom.TheVariants.{Unknown}
 use Rattle.solver.specs.declared.constraints.Constraint.{Constraint}
+use Rattle.solver.specs.declared.waiting.Waiting.{Waiting}
 
 -- whether a constraint waits
 abbrev pub flag : List Bool → ℕ → Bool
 flag waits i = slice_index_or waits i false
+
+-- numbers that wait, in their order
+abbrev pub order_in : Waiting → List ℕ
+order_in waiting = drop waiting.taken waiting.first.items ++ waiting.later.items
 
 -- the right side of a constraint is an unknown
 pub record RightIsUnknown {T : Type 0} (cs : List (Constraint T)) (i : ℕ) : Type 0 where

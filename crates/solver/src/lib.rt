@@ -16,6 +16,7 @@ mod search;
 mod sharing;
 pub mod solution;
 pub mod solving;
+mod waiting;
 mod worklist;
 
 pub use constraints::{Atom, Constraint, Constraints, Left};

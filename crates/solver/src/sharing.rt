@@ -5,7 +5,7 @@ ghost use Rattle.solver.specs.Looks.{count_of};
 ghost use Rattle.solver.specs.Rows.{AreSized, atom_has, has_at, left_has};
 ghost use Rattle.solver.specs.Work.{IsBroughtTo, IsGrown, IsMore};
 ghost use Rattle.solver.specs.declared.constraints.Atom.TheVariants.{Unknown};
-ghost use Rattle.std.specs.Prelude.{All, Contains, IfOk, IfSome, IsTrue, OnOk, [], false, length, map, replicate, set, slice_index_or, ℕ, ◌<◌, ◌||◌, ◌≡◌, ◌≤◌};
+ghost use Rattle.std.specs.Prelude.{All, Bool, Contains, IfOk, IfSome, IsTrue, List, OnOk, [], false, length, map, replicate, set, slice_index_or, ℕ, ◌<◌, ◌==◌, ◌||◌, ◌≡◌, ◌≤◌};
 
 use crate::constraints::Atom;
 use labels::Row;
@@ -25,6 +25,9 @@ const MOST_STEPS: u32 = 32;
 
 // Shorter rows are kept whole.
 const SHORT: usize = 512;
+
+// The numbers of longer rows are not looked at one by one.
+const LOOKED_AT: usize = 32;
 
 /// How a row is kept: whole, or as the one with a number and some numbers beyond that.
 #[derive(Debug, Drop)]
@@ -48,6 +51,8 @@ pub(crate) struct SharedRows {
     kept: Vec<Kept>,
     // For each unknown the number of its row.
     of: Vec<usize>,
+    // For each written element an unknown whose row may be that of the element alone.
+    alone: Vec<usize>,
 }
 
 impl Model for SharedRows {
@@ -89,6 +94,37 @@ fn last_unknown(left: &[Atom]) -> Option<usize>
         }
     }
     None
+}
+
+// Whether all parts of a left side are this one.
+fn are_all(left: &[Atom], only: Atom) -> bool
+    ensures { IsTrue result → (k : ℕ) → k < length left.now →
+        slice_index_or left.now k only ≡ only }
+{
+    for part in left {
+        if *part != only {
+            return false;
+        }
+    }
+    true
+}
+
+// The number of the written element of which a left side consists, if it is one only.
+fn only_written(left: &[Atom]) -> Option<usize>
+    ensures { IfSome result (λ number. (rows : List (List Bool)) (n : ℕ) →
+        left_has rows left.now n ≡ (n == number)) }
+{
+    if left.is_empty() {
+        return None;
+    }
+    let first = left[0];
+    let Atom::Written(number) = first else {
+        return None;
+    };
+    if !are_all(left, first) {
+        return None;
+    }
+    Some(number as usize)
 }
 
 // The same row once more.
@@ -395,6 +431,93 @@ fn taken_over(kept: &[Kept], of: &[usize], unknown: usize, left: &[Atom]) -> Opt
     Some(number)
 }
 
+// Whether a row has one number only, this, as far as it is seen at once: it is short.
+fn has_only(row: &Row, only: usize) -> bool
+    ensures { IsTrue result → (n : ℕ) → has row.now n ≡ (n == only) }
+{
+    if row.bound() > LOOKED_AT {
+        return false;
+    }
+    let Some(first) = row.first_from(0) else {
+        return false;
+    };
+    if first != only {
+        return false;
+    }
+    row.first_from(first + 1).is_none()
+}
+
+// Whether the row with a number has one number only, as far as it is seen at once.
+fn is_alone(kept: &[Kept], number: usize, only: usize) -> bool
+    requires { number < length kept.now }
+    ensures { IsTrue result → (n : ℕ) → has (bits_of kept.now number) n ≡ (n == only) }
+{
+    match &kept[number].form {
+        RowForm::Whole(row) => has_only(row, only),
+        RowForm::Beyond(_, _) => false,
+    }
+}
+
+// The number of the row of a written element alone, if that is all that a left side has and an unknown is noted that has this row, and
+// an unknown has no number yet.
+fn taken_alone(
+    kept: &[Kept],
+    of: &[usize],
+    alone: &[usize],
+    unknown: usize,
+    left: &[Atom],
+) -> Option<usize>
+    requires shared { AreShared kept.now of.now }
+    requires unknown { unknown < length of.now }
+    ensures number { IfSome result (λ number. number < length kept.now) }
+    ensures more { IfSome result (λ number. (count : ℕ)
+        → AreSized count (map (bits_of kept.now) of.now)
+        → IsMore (map (bits_of kept.now) of.now) count unknown left.now
+        (bits_of kept.now number)) }
+{
+    let only = only_written(left)?;
+    let from = *alone.get(only)?;
+    let number = *of.get(from)?;
+    if !is_alone(kept, number, only) {
+        return None;
+    }
+    if !is_below_zero(kept, of[unknown]) {
+        return None;
+    }
+    Some(number)
+}
+
+// The number of a row that is all that a left side has, if one is seen at once and an unknown has no number yet.
+fn taken(
+    kept: &[Kept],
+    of: &[usize],
+    alone: &[usize],
+    unknown: usize,
+    left: &[Atom],
+) -> Option<usize>
+    requires shared { AreShared kept.now of.now }
+    requires unknown { unknown < length of.now }
+    ensures number { IfSome result (λ number. number < length kept.now) }
+    ensures more { IfSome result (λ number. (count : ℕ)
+        → AreSized count (map (bits_of kept.now) of.now)
+        → IsMore (map (bits_of kept.now) of.now) count unknown left.now
+        (bits_of kept.now number)) }
+{
+    if let Some(number) = taken_over(kept, of, unknown, left) {
+        return Some(number);
+    }
+    taken_alone(kept, of, alone, unknown, left)
+}
+
+// Notes that the row of an unknown is that of the written element of which a left side consists, if it is one only.
+fn note_alone(alone: &mut [usize], unknown: usize, left: &[Atom]) {
+    if let Some(only) = only_written(left) {
+        if let Some(noted) = alone.get_mut(only) {
+            *noted = unknown;
+        }
+    }
+}
+
 impl SharedRows {
     /// This many empty rows, which will have numbers below a count.
     pub(crate) fn new(
@@ -416,7 +539,8 @@ impl SharedRows {
             form: RowForm::Whole(none),
         })?;
         let of = vec![in alloc; 0usize; unknowns]?;
-        Ok(SharedRows { kept, of })
+        let alone = vec![in alloc; 0usize; count.min(LOOKED_AT)]?;
+        Ok(SharedRows { kept, of, alone })
     }
 
     /// The row of an unknown, which is empty where there is none.
@@ -443,15 +567,21 @@ impl SharedRows {
         )
     }
 
-    /// Gives an unknown without a number the row of an unknown of a left side, if that row is all that the left side has. The answer is
-    /// whether it did.
+    /// Gives an unknown without a number a row that is all that a left side has, if one is seen at once: that of an unknown of the left
+    /// side, or that of a written element alone. The answer is whether it did.
     pub(crate) fn take_over(&mut self, unknown: usize, left: &[Atom]) -> bool
         requires { unknown < length self.old }
         ensures taken { IsTrue result → (count : ℕ) → AreSized count self.old
             → IsBroughtTo self.old count unknown left.now self.new }
         ensures kept { result ≡ false → self.new ≡ self.old }
     {
-        match taken_over(self.kept.as_slice(), self.of.as_slice(), unknown, left) {
+        match taken(
+            self.kept.as_slice(),
+            self.of.as_slice(),
+            self.alone.as_slice(),
+            unknown,
+            left,
+        ) {
             Some(taken) => {
                 self.of[unknown] = taken;
                 true
@@ -514,6 +644,7 @@ impl SharedRows {
         requires { unknown < length self.old }
         ensures { OnOk result (self.new ≡ set self.old unknown row) }
     {
+        note_alone(&mut self.alone, unknown, left);
         if let Some(same) = same_as(self.kept.as_slice(), self.of.as_slice(), &row, left) {
             self.of[unknown] = same;
             return Ok(());

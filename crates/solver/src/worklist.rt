@@ -1,7 +1,7 @@
 //! Which written elements reach each unknown: a work list of constraints.
 ghost use Rattle.solver.specs.Links.{AreBelow, InRange};
 ghost use Rattle.solver.specs.Looks.{written_left};
-ghost use Rattle.solver.specs.Queue.{RightIsUnknown};
+ghost use Rattle.solver.specs.Queue.{RightIsUnknown, order_in};
 ghost use Rattle.solver.specs.Reach.{AreEdges};
 ghost use Rattle.solver.specs.Rows.{AreRows, AreSized};
 ghost use Rattle.solver.specs.Work.{AreSoFar, IsBrought, IsWork, room};
@@ -65,6 +65,24 @@ fn bring(
     if rows.take_over(unknown, left) {
         return Ok(true);
     }
+    bring_all(alloc, rows, count, unknown, left)
+}
+
+// Adds all that a left side has to the row of an unknown, by a row of its own. The answer is whether that lacked some of it.
+// A call, since most rows are not made so.
+#[inline(never)]
+fn bring_all(
+    alloc: Global,
+    rows: &mut SharedRows,
+    count: usize,
+    unknown: usize,
+    left: &[Atom],
+) -> Result<bool, AllocError>
+    requires unknown { unknown < length rows.old }
+    requires range { AreBelow count (length rows.old) left.now }
+    requires sized { AreSized count rows.old }
+    ensures { IfOk result (IsBrought rows.old count unknown left.now rows.new) }
+{
     let all = left_row(alloc, left, rows, count)?;
     let Some(row) = rows.grown(alloc, unknown, all)? else {
         return Ok(false);
@@ -88,17 +106,17 @@ impl Reached {
             (length edges.now.unknown) constraints.now }
         requires right { RightIsUnknown constraints.now by }
         requires work { IsWork constraints.now edges.now self.old.rows
-            queue.old.waits.items queue.old.order.items by }
+            queue.old.waits.items (order_in queue.old.order) by }
         requires so_far { AreSoFar constraints.now edges.now self.old.rows
-            (by ∷ queue.old.order.items) self.old.looks }
+            (by ∷ (order_in queue.old.order)) self.old.looks }
         ensures work { OnOk result (IsWork constraints.now edges.now self.new.rows
-            queue.new.waits.items queue.new.order.items (length constraints.now)) }
+            queue.new.waits.items (order_in queue.new.order) (length constraints.now)) }
         ensures so_far { OnOk result (AreSoFar constraints.now edges.now self.new.rows
-            queue.new.order.items self.new.looks) }
-        ensures less { OnOk result (length queue.new.order.items
+            (order_in queue.new.order) self.new.looks) }
+        ensures less { OnOk result (length (order_in queue.new.order)
             + room (written_left constraints.now 0 (length edges.now.written))
             edges.now.unknown self.new.rows
-            ≤ length queue.old.order.items
+            ≤ length (order_in queue.old.order)
             + room (written_left constraints.now 0 (length edges.now.written))
             edges.now.unknown self.old.rows) }
     {

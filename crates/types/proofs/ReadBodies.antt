@@ -11,7 +11,6 @@ use Rattle.common.specs.declared.base_type.BaseType.TheVariants.{Int, Boolean}
 use Rattle.resolved.specs.declared.expression.Variable.TheVariants.{Global, Local}
 use Rattle.resolved.specs.Program.{Program, ChannelEntry, GlobalEntry, SlotEntry, ThrownEntry, ProcedureEntry}
 use Rattle.resolved.specs.Tree.{Statement, Clear, ReturnWith, Block, Handlers}
-use Rattle.resolved.specs.WellFormed.{same_base}
 use Rattle.types.specs.declared.scope.Meaning.{Meaning}
 use Rattle.common.specs.declared.direction.Direction.TheVariants as directions
 use Rattle.types.specs.declared.scope.ItemKind.TheVariants.{Channel, Exception, Procedure}
@@ -22,7 +21,7 @@ use Rattle.types.specs.Environment.{Environment, declaring, fresh_finding, use_a
 use Rattle.types.specs.Labels.{LabelScope, label_finding, optional_label_finding}
 use Rattle.types.specs.Expressions.{Typed, expression_finding, typed_finding}
 use Rattle.types.specs.Laws.{channel_names, global_names, MeaningHasName}
-use Rattle.types.specs.Statements.{Signature, Setting, Point, label_scope, with_local, call_finding, assigned_finding, declare_finding, size_finding, declare_array_finding, returned_finding, return_finding, after_block, statement_finding, block_finding, statements_finding, catches_finding, slot_of}
+use Rattle.types.specs.Statements.{Signature, Setting, Point, label_scope, with_local, call_finding, assigned_finding, declare_finding, size_finding, declare_array_finding, gives_base, return_finding, after_block, statement_finding, block_finding, statements_finding, catches_finding, slot_of}
 use Rattle.types.specs.Views.{CallUse, setting_within, program_with}
 use Rattle.types.proofs.NextItems.{next_channel, next_global}
 use Rattle.types.specs.Resolution.{TopLevel, heads, result_finding, next_parameter, is_thrown, next_thrown, procedure_entry_finding, channel_finding, global_finding, next_item, main_finding, resolution, empty_program, next_name, built_in, next_frame, next_global_cells}
@@ -96,18 +95,13 @@ module _ (program : Program) where
     abbrev Stays : StatementTree → Statement → Type 0
     Stays written s = ReadsStatement program scope written s scope
 
-    returned_reads : (result : Option BaseType) (at value_at : ℕ) (value : ExpressionTree) (found : Typed) → ReadsExpression program scope value found.expression
-        → IfOk (returned_finding result at value_at found) (Stays (ReturnTree at (Some value)))
-    returned_reads None at value_at value found reads = tt
-    returned_reads (Some base) at value_at value found reads =
-        if_finds (same_base found.base base) (ReturnWith at (Some found.expression)) _ value_at _ (λ is. ReadReturnValue reads)
-
     return_reads : (result : Option BaseType) (at : ℕ) (value : Option ExpressionTree) → IfOk (return_finding result names at value) (Stays (ReturnTree at value))
     unfolding return_finding
     return_reads result at None = if_finds (is_none result) (ReturnWith at None) _ at _ (λ none. ReadReturn)
     return_reads result at (Some value) =
-        then_finds (expression_finding names value) _ (λ (found : Typed). ReadsExpression program scope value found.expression) _
-        (expression_reads program scope names agrees value) (λ found reads. returned_reads result at (expression_at value) value found reads)
+        then_finds (expression_finding names value) _ (λ (found : Typed). ReadsExpression program scope value found.0) _
+        (expression_reads program scope names agrees value) (λ found reads.
+        if_finds (gives_base found.1 result) (ReturnWith at (Some found.0)) _ (expression_at value) _ (λ is. ReadReturnValue reads))
 
   -- ---- declarations
 

@@ -29,9 +29,9 @@ use Rattle.types.specs.ReadBack.{NameScope, with_declared, innermost, IsChannel,
 use Rattle.types.proofs.Passing.{then_finds, if_finds, any_finds}
 use Rattle.types.proofs.Uses.{scalar_used, array_used, item_used}
 
-of_base_finds : (base : BaseType) (at : ℕ) (found : Typed) (P : Expression → Type 0) → P found.expression → IfOk (of_base base at found) P
+of_base_finds : (base : BaseType) (at : ℕ) (found : Typed) (P : Expression → Type 0) → P found.0 → IfOk (of_base base at found) P
 unfolding of_base
-of_base_finds base at found P h = if_finds (same_base found.base base) found.expression _ at P (λ same. h)
+of_base_finds base at found P h = if_finds (same_base found.1 base) found.0 _ at P (λ same. h)
 
 module _ (program : Program) where
   -- ---- what names mean
@@ -104,13 +104,13 @@ module _ (program : Program) where
     combined_reads at (binary.Compare (Matched sameness)) Boolean left right d e p q = ReadBinary {made = Match sameness} refl p q
     combined_reads at (binary.Connect connective) base left right d e p q = ReadShort p q
 
-    wanting_reads : (base : BaseType) (at : ℕ) (looked : Finding Typed) (tree : ExpressionTree) → IfOk looked (λ (found : Typed). Reads tree found.expression)
+    wanting_reads : (base : BaseType) (at : ℕ) (looked : Finding Typed) (tree : ExpressionTree) → IfOk looked (λ (found : Typed). Reads tree found.0)
         → IfOk (wanting base at looked) (Reads tree)
     wanting_reads base at looked tree h =
-        then_finds looked (of_base base at) (λ (found : Typed). Reads tree found.expression) (Reads tree) h
+        then_finds looked (of_base base at) (λ (found : Typed). Reads tree found.0) (Reads tree) h
         (λ found reads. of_base_finds base at found (Reads tree) reads)
 
-    pub expression_reads : (tree : ExpressionTree) → IfOk (expression_finding names tree) (λ (found : Typed). Reads tree found.expression)
+    pub expression_reads : (tree : ExpressionTree) → IfOk (expression_finding names tree) (λ (found : Typed). Reads tree found.0)
     unfolding expression_finding
     expression_reads (IntegerTree at value) = ReadInteger
     expression_reads (TruthTree at value) = ReadTruth
@@ -127,12 +127,12 @@ module _ (program : Program) where
         (wanting_reads base (expression_at operand) (expression_finding names operand) operand (expression_reads operand))
         (λ e reads. ReadUnary reads)
     expression_reads (BinaryTree at operator left right) =
-        then_finds (expression_finding names left) _ (λ (found : Typed). Reads left found.expression) _ (expression_reads left) (λ l left_reads.
-        let base = operands_base operator l.base in
+        then_finds (expression_finding names left) _ (λ (found : Typed). Reads left found.0) _ (expression_reads left) (λ l left_reads.
+        let base = operands_base operator l.1 in
         then_finds (of_base base (expression_at left) l) _ (Reads left) _ (of_base_finds base (expression_at left) l (Reads left) left_reads) (λ d d_reads.
-        then_finds (expression_finding names right) _ (λ (found : Typed). Reads right found.expression) _ (expression_reads right) (λ r right_reads.
+        then_finds (expression_finding names right) _ (λ (found : Typed). Reads right found.0) _ (expression_reads right) (λ r right_reads.
         then_finds (of_base base (expression_at right) r) _ (Reads right) _ (of_base_finds base (expression_at right) r (Reads right) right_reads)
-        (λ e e_reads. combined_reads at operator l.base left right d e d_reads e_reads))))
+        (λ e e_reads. combined_reads at operator l.1 left right d e d_reads e_reads))))
 
     pub typed_reads : (base : BaseType) (tree : ExpressionTree) → IfOk (typed_finding names base tree) (Reads tree)
     unfolding typed_finding

@@ -97,14 +97,14 @@ module _ (program : Program) (procedure : ProcedureEntry) (signatures : List Sig
     pub few : expression_nodes e ≤ written
 
   abbrev pub IsWellFormedExpression : Environment → ℕ → Typed → Type 0
-  IsWellFormedExpression names written found = IsWellFormedTyped names found.base written found.expression
+  IsWellFormedExpression names written found = IsWellFormedTyped names found.1 written found.0
 
   of_base_keeps : (names : Environment) (base : BaseType) (at written : ℕ) (found : Typed) → IsWellFormedExpression names written found
       → IfOk (of_base base at found) (IsWellFormedTyped names base written)
   unfolding of_base
   of_base_keeps names base at written found kept =
-      if_finds (same_base found.base base) found.expression _ at (IsWellFormedTyped names base written) (λ same. record {
-        fits = λ means. subst (λ one. has_base program procedure one found.expression ≡ true) (same_base_is found.base base same) (kept.fits means);
+      if_finds (same_base found.1 base) found.0 _ at (IsWellFormedTyped names base written) (λ same. record {
+        fits = λ means. subst (λ one. has_base program procedure one found.0 ≡ true) (same_base_is found.1 base same) (kept.fits means);
         few = kept.few;
       })
 
@@ -125,7 +125,7 @@ module _ (program : Program) (procedure : ProcedureEntry) (signatures : List Sig
   combined_fits : (operator : BinaryOperator) (base : BaseType) (d e : Expression)
       → has_base program procedure (operands_base operator base) d ≡ true
       → has_base program procedure (operands_base operator base) e ≡ true
-      → has_base program procedure (value_base operator) (combined operator base d e) ≡ true
+      → has_base program procedure (value_base operator base) (combined operator base d e) ≡ true
   combined_fits (binary.Compute operator) base d e = and_from (has_base program procedure Int d) (has_base program procedure Int e)
   combined_fits (binary.Compare (Ordered order)) base d e = and_from (has_base program procedure Int d) (has_base program procedure Int e)
   combined_fits (binary.Compare (Matched sameness)) Int d e = and_from (has_base program procedure Int d) (has_base program procedure Int e)
@@ -176,14 +176,14 @@ module _ (program : Program) (procedure : ProcedureEntry) (signatures : List Sig
         })
     expression_keeps (BinaryTree at operator left right) written =
         then_finds (expression_finding names left) _ (IsWellFormedExpression names (written_nodes left)) _ (expression_keeps left written.1) (λ l left_kept.
-        let base = operands_base operator l.base in
+        let base = operands_base operator l.1 in
         then_finds (of_base base (expression_at left) l) _ (IsWellFormedTyped names base (written_nodes left)) _
         (of_base_keeps names base (expression_at left) (written_nodes left) l left_kept) (λ d d_kept.
         then_finds (expression_finding names right) _ (IsWellFormedExpression names (written_nodes right)) _ (expression_keeps right written.2) (λ r right_kept.
         then_finds (of_base base (expression_at right) r) _ (IsWellFormedTyped names base (written_nodes right)) _
         (of_base_keeps names base (expression_at right) (written_nodes right) r right_kept) (λ e e_kept. record {
-          fits = λ means. combined_fits operator l.base d e (d_kept.fits means) (e_kept.fits means);
-          few = omega (arith, combined_nodes operator l.base d e, d_kept.few, e_kept.few);
+          fits = λ means. combined_fits operator l.1 d e (d_kept.fits means) (e_kept.fits means);
+          few = omega (arith, combined_nodes operator l.1 d e, d_kept.few, e_kept.few);
         }))))
 
     pub typed_keeps : (base : BaseType) (tree : ExpressionTree) → IsWrittenExpression fits word IsInteger tree

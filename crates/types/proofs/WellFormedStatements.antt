@@ -9,7 +9,6 @@ use Rattle.std.proofs.lemmas.List.Elements.{All-head, All-tail}
 use Rattle.std.proofs.lemmas.List.Folds.{list_all-append}
 use Rattle.std.proofs.lemmas.List.Sums.{sum_by-cons, sum_by_push}
 use Rattle.std.proofs.lemmas.Result.{IfOk-weaker}
-use Rattle.std.proofs.lemmas.Option.{same_Some}
 use Rattle.syntax.specs.Nodes as tree
 use Rattle.syntax.specs.Tree.{NameTree, LabelTree, ExpressionTree, CallTree, RightTree, ReceivedTree, CalledTree, ValueTree, SizeTree, StatementTree, DeclareTree, DeclareArrayTree, AssignTree, AssignElementTree, CallTree', ReceiveTree, SendTree, IfTree, WhileTree, BreakTree, ContinueTree, ThrowTree, ReturnTree, TryTree, NestedTree, BlockTree, BlockOf, StatementTrees, NoStatement, StatementThen, CatchTrees, NoCatch, CatchThen, expression_at}
 use Rattle.syntax.specs.Written.{IsWrittenExpression, IsWrittenOptionalExpression, IsWrittenCall, IsWrittenRight, IsWrittenStatement, IsWrittenBlock, AreWrittenStatements, AreWrittenCatches, IsInteger}
@@ -29,8 +28,8 @@ use Rattle.common.specs.Results.{along}
 use Rattle.types.specs.Finding.{require}
 use Rattle.types.specs.Environment.{Environment, fresh_finding, use_as, scalar_of, array_of, item_of}
 use Rattle.types.specs.Labels.{optional_label_finding}
-use Rattle.types.specs.Expressions.{Typed, expression_finding, typed_finding}
-use Rattle.types.specs.Statements.{arguments_finding, Setting, Point, label_scope, signature_at, next_argument, call_finding, gives_base, assigned_finding, declare_finding, size_finding, declare_array_finding, returned_finding, return_finding, after_block, statement_finding, block_finding, statements_finding, catches_finding, slot_of}
+use Rattle.types.specs.Expressions.{expression_finding, typed_finding}
+use Rattle.types.specs.Statements.{arguments_finding, Setting, Point, label_scope, signature_at, next_argument, call_finding, gives_base, assigned_finding, declare_finding, size_finding, declare_array_finding, return_finding, after_block, statement_finding, block_finding, statements_finding, catches_finding, slot_of}
 use Rattle.types.proofs.Passing.{then_finds, if_finds, require_finds, any_finds, finds_for_all}
 use Rattle.types.proofs.WellFormedExpressions.{given_base, slot_base, scalar_type, array_type, Stands, Means, means_declaring, scalar_found, array_found, item_found, IsWellFormedTyped, IsWellFormedExpression, expression_keeps, typed_keeps}
 use Rattle.types.proofs.WellFormedLabels.{GlobalsFit, SlotsFit, optional_label_there}
@@ -468,25 +467,10 @@ module _ (program : Program) (procedure : ProcedureEntry) (setting : Setting) wh
       no_value None e = refl
       no_value (Some entry) e = e
 
-      returned_keeps : (names : Environment) (at value_at nodes : ℕ) (found : Typed)
-          → IsWellFormedExpression program procedure setting.signatures names nodes found
-          → IfOk (returned_finding setting.result at value_at found) (IsWellFormedPlain names (1 + nodes))
-      returned_keeps names at value_at nodes found kept =
-          go procedure.result refl setting.result value
-        where
-          go : (entry : Option ResultEntry) → procedure.result ≡ entry → (result : Option BaseType) → given_base procedure.result ≡ result
-              → IfOk (returned_finding result at value_at found) (IsWellFormedPlain names (1 + nodes))
-          go entry e None given = tt
-          go None e (Some base) given = absurd (cc)
-          go (Some entry) e (Some base) given =
-              let same : entry.base ≡ base = same_Some entry.base base (sym (ap given_base e) ∙ given) in
-              if_finds (same_base found.base base) (ReturnWith at (Some found.expression)) _ value_at _ (λ is. record {
-                fits =
-                    λ means. subst (λ one. has_result one (λ base. has_base program procedure base found.expression) ≡ true) (sym e)
-                    (subst (λ one. has_base program procedure one found.expression ≡ true) (same_base_is found.base base is ∙ sym same) (kept.fits means));
-                no_loops = refl;
-                few = omega (arith, kept.few);
-              })
+      returns_value : (entry : Option ResultEntry) (base : BaseType) (e : Expression) → gives_base base (given_base entry) ≡ true
+          → has_base program procedure base e ≡ true → has_result entry (λ base. has_base program procedure base e) ≡ true
+      returns_value None base e given fits = given
+      returns_value (Some entry) base e given fits = subst (λ one. has_base program procedure one e ≡ true) (sym (same_base_is entry.base base given)) fits
 
       return_keeps : (names : Environment) (at : ℕ) (right : Option ExpressionTree) → IsWrittenOptionalExpression placed word IsInteger right
           → IfOk (return_finding setting.result names at right) (IsWellFormedPlain names (1 + tree.optional_expression_nodes right))
@@ -500,7 +484,11 @@ module _ (program : Program) (procedure : ProcedureEntry) (setting : Setting) wh
       return_keeps names at (Some right) written =
           then_finds (expression_finding names right) _ (IsWellFormedExpression program procedure setting.signatures names (tree.expression_nodes right)) _
           (expression_keeps program procedure setting.signatures placed word names right written)
-          (λ found kept. returned_keeps names at (expression_at right) (tree.expression_nodes right) found kept)
+          (λ found kept. if_finds (gives_base found.1 setting.result) (ReturnWith at (Some found.0)) _ (expression_at right) _ (λ given. record {
+            fits = λ means. returns_value procedure.result found.1 found.0 (subst (λ one. gives_base found.1 one ≡ true) (sym value) given) (kept.fits means);
+            no_loops = refl;
+            few = omega (arith, kept.few);
+          }))
 
       -- ---- declarations
 

@@ -16,61 +16,58 @@ use Rattle.common.specs.Results.{◌>>=◌}
 use Rattle.types.specs.Finding.{Finding, give, give_if}
 use Rattle.types.specs.Environment.{Environment, use_as, scalar_of, array_of}
 
--- an expression with the type of its values
-pub record Typed : Type 0 where
-  pub expression : Expression
-  pub base : BaseType
+-- an expression, with the type of its values, at a place that wants a type
+unfoldable pub of_base : BaseType → (at : ℕ) → Expression × BaseType → Finding Expression
+of_base base at found = give_if (same_base found.1 base) found.0 refusals.WrongType at
 
-abbrev pub typed : Expression → BaseType → Finding Typed
-typed expression base = give (record { expression = expression; base = base })
-
--- an expression whose values have to have a type
-unfoldable pub of_base : BaseType → (at : ℕ) → Typed → Finding Expression
-of_base base at found = give_if (same_base found.base base) found.expression refusals.WrongType at
-
-abbrev pub wanting : BaseType → (at : ℕ) → Finding Typed → Finding Expression
+abbrev pub wanting : BaseType → (at : ℕ) → Finding (Expression × BaseType) → Finding Expression
 wanting base at looked = looked >>= of_base base at
 
--- the type that the operands of an operator have to have, by that of the left one, and the type of its value
-abbrev pub operands_base : BinaryOperator → (left : BaseType) → BaseType
-operands_base (Compute operator) left = Int
-operands_base (Compare (Ordered order)) left = Int
-operands_base (Compare (Matched sameness)) left = left
-operands_base (Connect connective) left = Boolean
+-- of an operator by the type of its left operand: the type that its operands have to have, that of its value, and what it makes of both
+abbrev pub operator_typing : BinaryOperator → (left : BaseType) → BaseType × BaseType × (Expression → Expression → Expression)
+operator_typing (Compute operator) left = (Int, Int, Binary (operators.Compute operator))
+operator_typing (Compare (Ordered order)) left = (Int, Boolean, Binary (operators.Compare (Ordered order)))
+operator_typing (Compare (Matched sameness)) Int = (Int, Boolean, Binary (operators.Compare (Matched sameness)))
+operator_typing (Compare (Matched sameness)) Boolean = (Boolean, Boolean, Binary (operators.Match sameness))
+operator_typing (Connect connective) left = (Boolean, Boolean, Short connective)
 
-abbrev pub value_base : BinaryOperator → BaseType
-value_base (Compute operator) = Int
-value_base (Compare comparison) = Boolean
-value_base (Connect connective) = Boolean
-
--- the operator on its operands, which have this type
-abbrev pub combined : BinaryOperator → BaseType → (left right : Expression) → Expression
-combined (Compute operator) base d e = Binary (operators.Compute operator) d e
-combined (Compare (Ordered order)) base d e = Binary (operators.Compare (Ordered order)) d e
-combined (Compare (Matched sameness)) Int d e = Binary (operators.Compare (Matched sameness)) d e
-combined (Compare (Matched sameness)) Boolean d e = Binary (operators.Match sameness) d e
-combined (Connect connective) base d e = Short connective d e
-
-unfoldable pub expression_finding : Environment → ExpressionTree → Finding Typed
-expression_finding names (IntegerTree at value) = typed (Integer value) Int
-expression_finding names (TruthTree at value) = typed (Logical value) Boolean
+unfoldable pub expression_finding : Environment → ExpressionTree → Finding (Expression × BaseType)
+expression_finding names (IntegerTree at value) = give (Integer value, Int)
+expression_finding names (TruthTree at value) = give (Logical value, Boolean)
 expression_finding names (VariableTree name) = do
   (x, base) ← use_as scalar_of (names name.text) name.at
-  typed (Read x) base
+  give (Read x, base)
 expression_finding names (ElementTree array index) = do
   (a, base, size) ← use_as array_of (names array.text) array.at
   i ← wanting Int (expression_at index) (expression_finding names index)
-  typed (Element a size i) base
+  give (Element a size i, base)
 expression_finding names (UnaryTree at prefix operand) = do
   e ← wanting (prefix_base prefix) (expression_at operand) (expression_finding names operand)
-  typed (Unary prefix e) (prefix_base prefix)
+  give (Unary prefix e, prefix_base prefix)
 expression_finding names (BinaryTree at operator left right) = do
   l ← expression_finding names left
-  d ← of_base (operands_base operator l.base) (expression_at left) l
+  let (operands, value, made) = operator_typing operator l.1
+  d ← of_base operands (expression_at left) l
   r ← expression_finding names right
-  e ← of_base (operands_base operator l.base) (expression_at right) r
-  typed (combined operator l.base d e) (value_base operator)
+  e ← of_base operands (expression_at right) r
+  give (made d e, value)
 
 -- an expression at a place that wants a type
 unfoldable pub typed_finding : Environment → BaseType → ExpressionTree → Finding Expression
 typed_finding names base tree = wanting base (expression_at tree) (expression_finding names tree)
+
+-- ---- parts of the rules, by which proofs speak of them
+
+-- what is found of an expression
+abbrev pub Typed : Type 0
+Typed = Expression × BaseType
+
+-- the type that the operands of an operator have to have, by that of the left one, that of its value, and what it makes of both
+abbrev pub operands_base : BinaryOperator → (left : BaseType) → BaseType
+operands_base operator left = (operator_typing operator left).0
+
+abbrev pub value_base : BinaryOperator → (left : BaseType) → BaseType
+value_base operator left = (operator_typing operator left).1
+
+abbrev pub combined : BinaryOperator → (left : BaseType) → Expression → Expression → Expression
+combined operator left d e = (operator_typing operator left).2 d e

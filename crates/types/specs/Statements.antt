@@ -18,10 +18,10 @@ use Rattle.types.specs.declared.fault.TypeRefusalKind.TheVariants as refusals
 use Rattle.types.specs.declared.scope.ItemKind.TheVariants.{Channel, Exception, Procedure}
 use Rattle.types.specs.declared.scope.Meaning.TheVariants as meanings
 use Rattle.common.specs.Results.{along, ◌>>=◌}
-use Rattle.types.specs.Finding.{Finding, give, refuse, give_if, require, put_last}
+use Rattle.types.specs.Finding.{Finding, give, give_if, require, put_last}
 use Rattle.types.specs.Environment.{Environment, declaring, fresh_finding, use_as, item_of, scalar_of, array_of}
 use Rattle.types.specs.Labels.{LabelScope, optional_label_finding}
-use Rattle.types.specs.Expressions.{Typed, expression_finding, typed_finding}
+use Rattle.types.specs.Expressions.{expression_finding, typed_finding}
 use Rattle.common.specs.declared.limits.TheConstants.{MAX_ELEMENTS}
 
 -- what a call has to know of a procedure: the types of its parameters, and the type of its value, if it gives one
@@ -70,7 +70,7 @@ call_finding signatures names call = do
   arguments ← arguments_finding names signature.parameters call.arguments
   give (procedure, arguments, signature.result)
 
--- a value of a type, where a call gives one
+-- whether a procedure gives a value, and one of a type
 abbrev pub gives_base : BaseType → Option BaseType → Bool
 gives_base base None = false
 gives_base base (Some given) = same_base given base
@@ -101,14 +101,11 @@ size_finding size = give_if (nat_lt 0 size.size && nat_le size.size MAX_ELEMENTS
 -- ---- returns
 
 -- a value is looked at before it is refused in a procedure that gives none
-abbrev pub returned_finding : Option BaseType → (at value_at : ℕ) → Typed → Finding Statement
-returned_finding None at value_at found = refuse refusals.WrongType value_at
-returned_finding (Some base) at value_at found =
-    give_if (same_base found.base base) (ReturnWith at (Some found.expression)) refusals.WrongType value_at
-
 unfoldable pub return_finding : Option BaseType → Environment → (at : ℕ) → Option ExpressionTree → Finding Statement
 return_finding result names at None = give_if (is_none result) (ReturnWith at None) refusals.WrongType at
-return_finding result names at (Some value) = expression_finding names value >>= returned_finding result at (expression_at value)
+return_finding result names at (Some value) = do
+  found ← expression_finding names value
+  give_if (gives_base found.1 result) (ReturnWith at (Some found.0)) refusals.WrongType (expression_at value)
 
 -- ---- statements, blocks and handlers
 

@@ -128,7 +128,7 @@ new_slot_entry labels slot = record {
   size = slot.size;
   written = optional_label_with labels slot.label;
   at = slot.at;
-  name = slot.name;
+  name = slot.name.now;
 }
 
 abbrev pub names_of : BodyScope → Environment
@@ -163,7 +163,7 @@ abbrev pub at_point : {X A : Type 0} → BodyScope → (X → A) → X → Point
 at_point body view x = (point_of body, view x)
 
 abbrev pub typed_view : TypedExpression → Typed
-typed_view found = record { expression = expression_of found.expression; base = found.base }
+typed_view found = (expression_of found.expression, found.base)
 
 abbrev pub expressions_of : Vec CodeExpression Global → List Expression
 expressions_of expressions = map expression_of expressions.items

@@ -110,7 +110,7 @@ impl<'a, 'n> BodyScope<'a, 'n> {
 
     /// A statement. The function is longer than others, since it is one match over all statements.
     #[cycle(block)]
-    #[inline(never)]
+    #[inline(always)]
     #[tactic(auto, unfolding(crate::specs::Statements::statement_finding))]
     fn resolve_statement(&mut self, written: &syntax::Statement<'n>) -> Result<Statement, TypeFault>
         requires room { taken self.old + statement_nodes (statement_tree written.now) < most_nodes }

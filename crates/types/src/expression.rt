@@ -1,15 +1,15 @@
 //! Expressions and the types of their values.
 
 ghost use Rattle.types.specs.Expressions.{expression_finding, of_base, typed_finding};
+ghost use Rattle.types.specs.Finding.{give};
 ghost use Rattle.types.specs.Views.{Resolves, names_of, typed_view};
 ghost use Rattle.resolved.specs.TreeOf.{expression_of};
 ghost use Rattle.std.specs.Prelude.{ℕ, ◌≡◌};
-ghost use Rattle.syntax.specs.Tree.{BinaryTree, ElementTree, UnaryTree, expression_tree, name_tree};
+ghost use Rattle.syntax.specs.Tree.{BinaryTree, ElementTree, UnaryTree, VariableTree, expression_tree, name_tree};
 
 use crate::body::BodyScope;
 use crate::fault::{TypeFault, TypeRefusal, TypeRefusalKind};
 use crate::operator::{base_of_prefix, combine, is_same, operands_base, value_base};
-use crate::scope::{require_array, require_scalar};
 use common::{BaseType, OrNoMemory, Prefix};
 use resolved::expression::Expression;
 use syntax::{BinaryOperator, Name};
@@ -23,8 +23,7 @@ pub struct TypedExpression {
 
 impl TypedExpression {
     fn new(expression: Expression, base: BaseType) -> TypedExpression
-        ensures { typed_view result ≡
-            record { expression = expression_of expression; base = base } }
+        ensures { typed_view result ≡ (expression_of expression, base) }
     {
         TypedExpression { expression, base }
     }
@@ -50,14 +49,24 @@ impl TypedExpression {
     }
 }
 
+/// A constant is what it says.
+#[inline(never)]
+fn found_constant(expression: Expression, base: BaseType) -> Result<TypedExpression, TypeFault>
+    ensures { Resolves typed_view result (give (expression_of expression, base)) }
+{
+    Ok(TypedExpression::new(expression, base))
+}
+
 impl<'a, 'n> BodyScope<'a, 'n> {
-    /// Resolves an expression, and finds the type of its values. Operands are resolved from the left.
+    /// Resolves an expression, and finds the type of its values. Operands are resolved from the left. Each kind of expression is
+    /// resolved by a call of its own, since what is put together in one place is taken apart there.
     ///
     /// # Errors
     ///
     /// The first fault in it: 301 where a name stands for nothing, 403 where it stands for something else than its place wants,
     /// 401 where an operand or an index has another type than its operator or place wants; or out of memory.
     #[cycle(expression)]
+    #[inline(always)]
     #[tactic(auto, unfolding(crate::specs::Expressions::expression_finding))]
     pub fn resolve_expression(
         &self,
@@ -68,15 +77,12 @@ impl<'a, 'n> BodyScope<'a, 'n> {
     {
         match written {
             syntax::Expression::Integer { value, .. } => {
-                Ok(TypedExpression::new(Expression::Integer(*value), BaseType::Int))
+                found_constant(Expression::Integer(*value), BaseType::Int)
             }
             syntax::Expression::Truth { value, .. } => {
-                Ok(TypedExpression::new(Expression::Logical(*value), BaseType::Boolean))
+                found_constant(Expression::Logical(*value), BaseType::Boolean)
             }
-            syntax::Expression::Variable(name) => {
-                let found = require_scalar(self.look_up(name), name.at)?;
-                Ok(TypedExpression::new(Expression::Read(found.variable), found.base))
-            }
+            syntax::Expression::Variable(name) => self.resolve_variable(name),
             syntax::Expression::Element { array, index } => self.resolve_element(array, index),
             syntax::Expression::Unary {
                 operator,
@@ -91,8 +97,20 @@ impl<'a, 'n> BodyScope<'a, 'n> {
         }
     }
 
+    /// The value of a scalar.
+    #[inline(never)]
+    #[tactic(auto, unfolding(crate::specs::Expressions::expression_finding))]
+    fn resolve_variable(&self, name: &Name<'_>) -> Result<TypedExpression, TypeFault>
+        ensures { Resolves typed_view result
+            (expression_finding (names_of self.now) (VariableTree (name_tree name.now))) }
+    {
+        let found = self.find_scalar(name)?;
+        Ok(TypedExpression::new(Expression::Read(found.variable), found.base))
+    }
+
     /// An element of an array.
     #[cycle(expression)]
+    #[inline(never)]
     #[tactic(auto, unfolding(crate::specs::Expressions::expression_finding))]
     fn resolve_element(
         &self,
@@ -102,7 +120,7 @@ impl<'a, 'n> BodyScope<'a, 'n> {
         ensures { Resolves typed_view result (expression_finding (names_of self.now)
             (ElementTree (name_tree name.now) (expression_tree index.now))) }
     {
-        let found = require_array(self.look_up(name), name.at)?;
+        let found = self.find_array(name)?;
         let index = self
             .resolve_expression(index)?
             .require_base(BaseType::Int, index.at())?;
@@ -113,6 +131,7 @@ impl<'a, 'n> BodyScope<'a, 'n> {
 
     /// An operator before its operand.
     #[cycle(expression)]
+    #[inline(never)]
     #[tactic(auto, unfolding(crate::specs::Expressions::expression_finding))]
     fn resolve_unary(
         &self,
@@ -132,6 +151,7 @@ impl<'a, 'n> BodyScope<'a, 'n> {
 
     /// An operator between its operands.
     #[cycle(expression)]
+    #[inline(never)]
     #[tactic(auto, unfolding(crate::specs::Expressions::expression_finding))]
     fn resolve_binary(
         &self,
@@ -150,7 +170,7 @@ impl<'a, 'n> BodyScope<'a, 'n> {
             .resolve_expression(right)?
             .require_base(base, right.at())?;
         let made = combine(self.alloc, operator, given, left, right)?;
-        Ok(TypedExpression::new(made, value_base(operator)))
+        Ok(TypedExpression::new(made, value_base(operator, given)))
     }
 
     /// Resolves an expression at a place that wants a type.
@@ -158,7 +178,7 @@ impl<'a, 'n> BodyScope<'a, 'n> {
     /// # Errors
     ///
     /// What [`BodyScope::resolve_expression`] reports of it, and then 401 where its values have another type; or out of memory.
-    #[inline(always)]
+    #[inline(never)]
     #[tactic(auto, unfolding(crate::specs::Expressions::typed_finding))]
     pub fn type_expression(
         &self,

@@ -42,9 +42,9 @@ pub fn operands_base(operator: BinaryOperator, left: BaseType) -> BaseType
     }
 }
 
-/// Finds the type of the values that a written operator between its operands gives.
-pub fn value_base(operator: BinaryOperator) -> BaseType
-    ensures { result ≡ spec.value_base operator }
+/// Finds the type of the values that a written operator between its operands gives, where the left one has the type `left`.
+pub fn value_base(operator: BinaryOperator, left: BaseType) -> BaseType
+    ensures { result ≡ spec.value_base operator left }
 {
     match operator {
         BinaryOperator::Compute(_) => BaseType::Int,

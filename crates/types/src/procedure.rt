@@ -15,9 +15,9 @@ ghost use Rattle.syntax.specs.Tree.{written_result_tree, parameter_tree, procedu
 use crate::body::BodyScope;
 use crate::fault::{TypeFault, TypeRefusal, TypeRefusalKind};
 use crate::label::ItemContext;
-use crate::scope::{ItemKind, find, require_fresh, require_item};
+use crate::scope::{ItemKind, find, require_item};
 use crate::top::result_of;
-use crate::variables::{DeclaredVariables, LabelParts};
+use crate::variables::{DeclaredVariables, LabelParts, NewSlot};
 use common::OrNoMemory;
 use indexmap::IndexSet;
 use resolved::tables::{Procedure, ResultType, Thrown};
@@ -61,10 +61,14 @@ impl<'a, 'n> BodyScope<'a, 'n> {
         ensures grows { OnOk result (taken self.new ≤ taken self.old + 2) }
     {
         let label = self.item_label_context().resolve(&written.label)?;
-        require_fresh(self.look_up(&written.name), written.name.at)?;
-        let base = written.base;
-        let slot = self.make_slot(written.at, base, None, Some(label), &written.name)?;
-        self.declare(written.name.text, slot)?;
+        self.require_unused(&written.name)?;
+        self.declare(NewSlot {
+            base: written.base,
+            size: None,
+            label: Some(label),
+            at: written.at,
+            name: written.name.text,
+        })?;
         Ok(())
     }
 

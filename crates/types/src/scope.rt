@@ -1,11 +1,12 @@
 //! What names stand for, and the uses that places make of them.
 
+ghost use Rattle.std.specs.BTreeMap.{get_by_text};
 ghost use Rattle.types.specs.Environment.{array_of, declaring, fresh_finding, item_of, scalar_of, use_as, variable_of};
 ghost use Rattle.types.specs.Finding.{give};
 ghost use Rattle.types.specs.Views.{Resolves, array_use, found_in, itself, or_else, scalar_use, texts_of, without};
 ghost use Rattle.types.specs.Resolution.{nothing_declared};
 ghost use Rattle.types.specs.ShortNames as spec;
-ghost use Rattle.std.specs.Prelude.{OnOk, List, [], ◌∷◌, ◌≡◌, ◌≤◌, None, length, true, ℕ};
+ghost use Rattle.std.specs.Prelude.{IfSome, IsTrue, OnOk, List, [], ◌∷◌, ◌≡◌, ◌≤◌, None, Some, length, true, ℕ};
 
 use crate::fault::{TypeFault, TypeRefusal, TypeRefusalKind};
 use crate::short_names::ShortNames;
@@ -73,6 +74,7 @@ impl Names {
 }
 
 /// The number of a name that fits a word.
+#[inline(always)]
 fn word_of(name: &[u8]) -> u64
     requires { length name.now ≤ MOST_IN_WORD }
     ensures value { result ≡ spec.digits name.now }
@@ -88,6 +90,7 @@ fn word_of(name: &[u8]) -> u64
 }
 
 /// The number of a short name: its bytes are the digits, the first one the last digit, after a 1.
+#[inline(always)]
 fn number_of(name: &[u8]) -> Option<u128>
     ensures { result ≡ spec.number_of name.now }
 {
@@ -116,7 +119,20 @@ pub fn find(table: &Names, name: &str) -> Option<Meaning>
     }
 }
 
+/// What a name that is not short stands for by a table, or else by another one.
+#[inline(never)]
+fn find_long_in_either(first: &Names, second: &Names, name: &str) -> Option<Meaning>
+    ensures { result ≡ or_else (get_by_text first.now.long name.now)
+        (get_by_text second.now.long name.now) }
+{
+    match first.long.get(name).copied() {
+        Some(meaning) => Some(meaning),
+        None => second.long.get(name).copied(),
+    }
+}
+
 /// What a name stands for by a table, or else by another one. The number of a short name is made once.
+#[inline(always)]
 pub fn find_in_either(first: &Names, second: &Names, name: &str) -> Option<Meaning>
     ensures { result ≡ or_else (found_in first.now name.now) (found_in second.now name.now) }
 {
@@ -125,10 +141,37 @@ pub fn find_in_either(first: &Names, second: &Names, name: &str) -> Option<Meani
             Some(meaning) => Some(meaning),
             None => second.short.find(number),
         },
-        None => match first.long.get(name).copied() {
-            Some(meaning) => Some(meaning),
-            None => second.long.get(name).copied(),
-        },
+        None => find_long_in_either(first, second, name),
+    }
+}
+
+/// What a short name stands for by a table, or else by another one, where their buckets alone tell that, as most do.
+#[inline(always)]
+pub fn find_at_once<'t>(first: &'t Names, second: &'t Names, name: &str) -> Option<&'t Meaning>
+    ensures { IfSome result (λ meaning.
+        or_else (found_in first.now name.now) (found_in second.now name.now) ≡ Some meaning.now) }
+{
+    let Some(number) = number_of(name.as_bytes()) else {
+        return None;
+    };
+    if let Some(meaning) = first.short.find_at_once(number) {
+        return Some(meaning);
+    }
+    if first.short.lacks_at_once(number) {
+        return second.short.find_at_once(number);
+    }
+    None
+}
+
+/// Whether the buckets of two tables alone tell that a short name stands for nothing.
+#[inline(always)]
+pub fn lack_at_once(first: &Names, second: &Names, name: &str) -> bool
+    ensures { IsTrue result →
+        or_else (found_in first.now name.now) (found_in second.now name.now) ≡ None }
+{
+    match number_of(name.as_bytes()) {
+        Some(number) => first.short.lacks_at_once(number) && second.short.lacks_at_once(number),
+        None => false,
     }
 }
 

@@ -2,7 +2,7 @@
 
 ghost use Rattle.std.specs.BTreeMap.{get};
 ghost use Rattle.std.specs.Ordering.{nat_cmp};
-ghost use Rattle.std.specs.Prelude.{IfOk, OnOk, ◌<◌, ◌≡◌, ◌≤◌, Some, None, ℕ, slice_set};
+ghost use Rattle.std.specs.Prelude.{IfOk, IfSome, IsTrue, OnOk, ◌<◌, ◌≡◌, ◌≤◌, Some, None, ℕ, slice_set};
 ghost use Rattle.types.specs.Buckets as spec;
 ghost use Rattle.types.specs.Buckets.{AreBuckets, Updates, found_short};
 
@@ -42,6 +42,7 @@ pub struct ShortNames {
 }
 
 /// The bucket that a number leads to in a table of 2^(32 - shift) buckets: the upper bits of a hash.
+#[inline(always)]
 fn bucket_of(number: u128, shift: u32) -> usize
     requires { shift ≤ NO_BUCKETS }
     ensures { result ≡ spec.bucket_of shift number }
@@ -93,6 +94,7 @@ impl ShortNames {
     }
 
     // What the bucket of a number knows.
+    #[inline(always)]
     fn bucket(&self, number: u128) -> &Bucket
         ensures { result.now ≡
             spec.bucket_at self.now.buckets.items (spec.bucket_of self.now.shift number) }
@@ -104,6 +106,7 @@ impl ShortNames {
     }
 
     // What the map has of a number.
+    #[inline(never)]
     fn look_up(&self, number: u128) -> Option<Meaning>
         ensures { result ≡ get nat_cmp self.now.others number }
     {
@@ -136,9 +139,53 @@ impl ShortNames {
         }
     }
 
-    // Lets a number stand for this. Of two that lead to one bucket the later one takes it.
+    /// What a number stands for that stands in its bucket, as most do.
+    #[inline(always)]
+    pub fn find_at_once(&self, number: u128) -> Option<&Meaning>
+        ensures { IfSome result (λ meaning.
+            found_short self.now.shift self.now.buckets.items self.now.others number ≡
+            Some meaning.now) }
+    {
+        match self.bucket(number) {
+            Bucket::Alone(kept, meaning) => { if *kept == number { Some(meaning) } else { None } }
+            Bucket::First(kept, meaning) => { if *kept == number { Some(meaning) } else { None } }
+            Bucket::Free | Bucket::Shared => None,
+        }
+    }
+
+    /// Whether the bucket of a number alone tells that it stands for nothing.
+    #[inline(always)]
+    pub fn lacks_at_once(&self, number: u128) -> bool
+        ensures { IsTrue result →
+            found_short self.now.shift self.now.buckets.items self.now.others number ≡ None }
+    {
+        match self.bucket(number) {
+            Bucket::Free => true,
+            Bucket::Alone(kept, _) => *kept != number,
+            Bucket::First(_, _) | Bucket::Shared => false,
+        }
+    }
+
+    // Lets a number stand for this. Most lead to a bucket that is free.
     #[inline(always)]
     fn put(&mut self, number: u128, meaning: Meaning) -> Result<(), AllocError>
+        ensures { OnOk result (Updates number (Some meaning)
+            (found_short self.old.shift self.old.buckets.items self.old.others)
+            (found_short self.new.shift self.new.buckets.items self.new.others)) }
+    {
+        let at = bucket_of(number, self.shift);
+        match self.bucket(number) {
+            Bucket::Free => {
+                set_bucket(&mut self.buckets, at, Bucket::Alone(number, meaning));
+                Ok(())
+            }
+            _ => self.put_beside(number, meaning),
+        }
+    }
+
+    // The same whatever the bucket knows. Of two numbers that lead to one bucket the later one takes it.
+    #[inline(never)]
+    fn put_beside(&mut self, number: u128, meaning: Meaning) -> Result<(), AllocError>
         ensures { OnOk result (Updates number (Some meaning)
             (found_short self.old.shift self.old.buckets.items self.old.others)
             (found_short self.new.shift self.new.buckets.items self.new.others)) }
@@ -209,6 +256,7 @@ impl ShortNames {
     }
 
     // The same by a table of more buckets.
+    #[inline(never)]
     fn spread(&self, alloc: Global) -> Result<ShortNames, AllocError>
         requires { MOST_BUCKETS < self.now.shift }
         ensures { IfOk result (λ names. (number : ℕ) →
@@ -223,6 +271,18 @@ impl ShortNames {
             names.put(*number, *meaning)?;
         }
         Ok(names)
+    }
+
+    // Takes a table of more buckets, by which the numbers stand for the same.
+    #[inline(never)]
+    fn widen(&mut self, alloc: Global) -> Result<(), AllocError>
+        requires { MOST_BUCKETS < self.old.shift }
+        ensures { OnOk result ((number : ℕ) →
+            found_short self.new.shift self.new.buckets.items self.new.others number ≡
+            found_short self.old.shift self.old.buckets.items self.old.others number) }
+    {
+        *self = self.spread(alloc)?;
+        Ok(())
     }
 
     /// Lets a number stand for this from now on. There are more buckets where the map has an eighth as many numbers, or a
@@ -242,7 +302,7 @@ impl ShortNames {
             (found_short self.new.shift self.new.buckets.items self.new.others)) }
     {
         if self.buckets.len() / self.part() <= self.others.len() && MOST_BUCKETS < self.shift {
-            *self = self.spread(alloc)?;
+            self.widen(alloc)?;
         }
         self.put(number, meaning)
     }

@@ -1,25 +1,24 @@
 //! Statements that hold no others. Each kind is resolved by a call of its own, as those that hold others are.
 
+ghost use Rattle.types.specs.Labels.{optional_label_finding};
 ghost use Rattle.types.specs.Statements as spec;
-ghost use Rattle.types.specs.Statements.{arguments_finding, assigned_finding, call_finding, declare_array_finding, declare_finding, return_finding, size_finding, statement_finding};
+ghost use Rattle.types.specs.Statements.{arguments_finding, assigned_finding, call_finding, declare_array_finding, declare_finding, label_scope, return_finding, size_finding, statement_finding};
 ghost use Rattle.types.specs.VariableEntries.{optional_label_with};
-ghost use Rattle.types.specs.Views.{Resolves, IsLater, at_point, call_use, expressions_of, itself, names_of, new_slot_entry, point_of, setting_of, signatures_of, taken};
+ghost use Rattle.types.specs.Views.{Resolves, IsLater, at_point, call_use, expressions_of, itself, names_of, point_of, setting_of, signatures_of, taken};
 ghost use Rattle.resolved.specs.TreeOf.{statement_of};
-ghost use Rattle.std.specs.Prelude.{IfOk, OnOk, map, ◌+◌, ◌<◌, ◌≡◌, ◌≤◌};
+ghost use Rattle.std.specs.Prelude.{OnOk, map, ◌+◌, ◌<◌, ◌≡◌, ◌≤◌};
 ghost use Rattle.syntax.specs.Limits.{most_nodes};
-ghost use Rattle.syntax.specs.Tree.{AssignElementTree, AssignTree, CallTree', ReceiveTree, ReceivedTree, SendTree, ThrowTree, call_tree, expression_tree, name_tree, optional_expression_tree, optional_label_tree, right_tree, size_tree};
+ghost use Rattle.syntax.specs.Tree.{AssignElementTree, AssignTree, CallTree', CalledTree, ReceiveTree, ReceivedTree, SendTree, ThrowTree, call_tree, expression_tree, name_tree, optional_expression_tree, optional_label_tree, right_tree, size_tree};
 
 use crate::body::BodyScope;
 use crate::fault::{TypeFault, TypeRefusal, TypeRefusalKind};
 use crate::operator::is_same;
-use crate::scope::{ItemKind, require_array, require_fresh, require_scalar};
+use crate::scope::ItemKind;
 use crate::variables::{LabelParts, NewSlot};
 use common::limits::MAX_ELEMENTS;
 use common::{BaseType, Direction, OrNoMemory};
 use resolved::expression::{Expression, Variable};
-use resolved::slot_name::SlotName;
 use resolved::statement::{Exit, Statement};
-use std::alloc::AllocError;
 use syntax::{Call, Name, RightSide, Size, WrittenLabel};
 
 /// A call: its procedure, its arguments, and the type of its value, if it gives one.
@@ -96,6 +95,7 @@ impl<'a, 'n> BodyScope<'a, 'n> {
     }
 
     /// The assignment of what is received to a variable of a type, by a statement that begins at a byte.
+    #[inline(never)]
     #[tactic(auto, unfolding(crate::specs::Statements::assigned_finding))]
     fn resolve_received(
         &self,
@@ -119,8 +119,32 @@ impl<'a, 'n> BodyScope<'a, 'n> {
         Ok(Statement::Receive(at, number, Some(target)))
     }
 
-    /// The assignment of a right side to a variable of a type, by a statement that begins at a byte.
+    /// The assignment of the value of a call to a variable of a type, by a statement that begins at a byte.
     #[inline(never)]
+    #[tactic(auto, unfolding(crate::specs::Statements::assigned_finding))]
+    fn resolve_called(
+        &self,
+        at: usize,
+        target: Variable,
+        base: BaseType,
+        call: &Call<'_>,
+    ) -> Result<Statement, TypeFault>
+        ensures { Resolves statement_of result
+            (assigned_finding (signatures_of self.now) (names_of self.now) at target base
+            (CalledTree (call_tree call.now))) }
+    {
+        let made = self.resolve_call(call)?;
+        if !gives(base, made.result) {
+            return Err(OrNoMemory::Refused(TypeRefusal {
+                kind: TypeRefusalKind::WrongType,
+                at: call.procedure.at,
+            }));
+        }
+        Ok(Statement::Call(at, made.procedure, made.arguments, Some(target)))
+    }
+
+    /// The assignment of a right side to a variable of a type, by a statement that begins at a byte.
+    #[inline(always)]
     #[tactic(auto, unfolding(crate::specs::Statements::assigned_finding))]
     fn resolve_right_side(
         &self,
@@ -138,16 +162,7 @@ impl<'a, 'n> BodyScope<'a, 'n> {
                 at: receive_at,
                 channel,
             } => self.resolve_received(at, target, base, *receive_at, channel),
-            RightSide::Call(call) => {
-                let made = self.resolve_call(call)?;
-                if !gives(base, made.result) {
-                    return Err(OrNoMemory::Refused(TypeRefusal {
-                        kind: TypeRefusalKind::WrongType,
-                        at: call.procedure.at,
-                    }));
-                }
-                Ok(Statement::Call(at, made.procedure, made.arguments, Some(target)))
-            }
+            RightSide::Call(call) => self.resolve_called(at, target, base, call),
             RightSide::Value(value) => Ok(Statement::Assign(
                 at,
                 target,
@@ -156,36 +171,25 @@ impl<'a, 'n> BodyScope<'a, 'n> {
         }
     }
 
-    /// Makes the slot of a parameter or local with these parts. It declares nothing.
+    /// Resolves the label of a local, which may be left out.
     ///
     /// # Errors
     ///
-    /// Out of memory.
+    /// Those of a label.
     #[inline(always)]
-    pub fn make_slot(
+    #[tactic(auto, unfolding(crate::specs::Labels::optional_label_finding))]
+    fn resolve_local_label(
         &self,
-        at: usize,
-        base: BaseType,
-        size: Option<u32>,
-        label: Option<LabelParts>,
-        name: &Name<'_>,
-    ) -> Result<NewSlot, AllocError>
-        ensures { IfOk result (λ slot. new_slot_entry self.now.variables.labels slot ≡
-            record {
-              base = base;
-              size = size;
-              written = optional_label_with self.now.variables.labels label;
-              at = at;
-              name = (name_tree name.now).text;
-            }) }
+        written: &Option<WrittenLabel<'_>>,
+    ) -> Result<Option<LabelParts>, TypeFault>
+        ensures { Resolves (λ parts. optional_label_with self.now.variables.labels parts) result
+            (optional_label_finding (label_scope (setting_of self.now) (point_of self.now))
+            (optional_label_tree written.now)) }
     {
-        Ok(NewSlot {
-            base,
-            size,
-            label,
-            at,
-            name: SlotName::of(self.alloc, name.text)?,
-        })
+        match written {
+            None => Ok(None),
+            Some(_) => self.label_context().resolve_optional(written),
+        }
     }
 
     /// Resolves the declaration of a local with its first value. The local takes the next slot, and is not yet in scope in that
@@ -212,12 +216,18 @@ impl<'a, 'n> BodyScope<'a, 'n> {
         ensures later { OnOk result (IsLater self.old self.new) }
         ensures grows { OnOk result (taken self.new ≤ taken self.old + 2) }
     {
-        let written = self.label_context().resolve_optional(label)?;
-        require_fresh(self.look_up(name), name.at)?;
+        let written = self.resolve_local_label(label)?;
+        self.require_unused(name)?;
         let variable = Variable::Local(self.variables.slots().len() as u32);
         let statement = self.resolve_right_side(at, variable, base, value)?;
-        let slot = self.make_slot(at, base, None, written, name)?;
-        self.declare(name.text, slot)?;
+        let slot = NewSlot {
+            base,
+            size: None,
+            label: written,
+            at,
+            name: name.text,
+        };
+        self.declare(slot)?;
         Ok(statement)
     }
 
@@ -245,12 +255,17 @@ impl<'a, 'n> BodyScope<'a, 'n> {
         ensures later { OnOk result (IsLater self.old self.new) }
         ensures grows { OnOk result (taken self.new ≤ taken self.old + 2) }
     {
-        let label = self.label_context().resolve_optional(written)?;
-        require_fresh(self.look_up(name), name.at)?;
+        let label = self.resolve_local_label(written)?;
+        self.require_unused(name)?;
         let length = resolve_size(size)?;
         let number = self.variables.slots().len() as u32;
-        let slot = self.make_slot(at, base, Some(length), label, name)?;
-        self.declare(name.text, slot)?;
+        self.declare(NewSlot {
+            base,
+            size: Some(length),
+            label,
+            at,
+            name: name.text,
+        })?;
         Ok(Statement::Clear(at, number))
     }
 
@@ -271,7 +286,7 @@ impl<'a, 'n> BodyScope<'a, 'n> {
             (statement_finding (setting_of self.now) (point_of self.now)
             (AssignTree (name_tree target.now) (right_tree value.now))) }
     {
-        let found = require_scalar(self.look_up(target), target.at)?;
+        let found = self.find_scalar(target)?;
         self.resolve_right_side(target.at, found.variable, found.base, value)
     }
 
@@ -294,7 +309,7 @@ impl<'a, 'n> BodyScope<'a, 'n> {
             (AssignElementTree (name_tree name.now) (expression_tree index.now)
             (expression_tree value.now))) }
     {
-        let found = require_array(self.look_up(name), name.at)?;
+        let found = self.find_array(name)?;
         let index = self.type_expression(BaseType::Int, index)?;
         let value = self.type_expression(found.base, value)?;
         Ok(Statement::Store(name.at, found.variable, found.size, index, value))
@@ -398,28 +413,20 @@ impl<'a, 'n> BodyScope<'a, 'n> {
             },
             Some(value) => {
                 let found = self.resolve_expression(value)?;
-                match self.result {
-                    None => Err(OrNoMemory::Refused(TypeRefusal {
+                if gives(found.base, self.result) {
+                    Ok(Statement::Return(at, Some(found.expression)))
+                } else {
+                    Err(OrNoMemory::Refused(TypeRefusal {
                         kind: TypeRefusalKind::WrongType,
                         at: value.at(),
-                    })),
-                    Some(base) => {
-                        if is_same(found.base, base) {
-                            Ok(Statement::Return(at, Some(found.expression)))
-                        } else {
-                            Err(OrNoMemory::Refused(TypeRefusal {
-                                kind: TypeRefusalKind::WrongType,
-                                at: value.at(),
-                            }))
-                        }
-                    }
+                    }))
                 }
             }
         }
     }
 }
 
-/// Whether a value that a call gives, if it gives one, has a type.
+/// Whether a procedure gives a value, and one of a type.
 fn gives(base: BaseType, given: Option<BaseType>) -> bool
     ensures { result ≡ spec.gives_base base given }
 {

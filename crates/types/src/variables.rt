@@ -49,12 +49,12 @@ impl LabelParts {
 /// A parameter or local that is to be declared: a scalar, or an array of `size` elements, with its label if that is written, the
 /// byte at which its declaration begins, and its name.
 #[derive(Drop)]
-pub struct NewSlot {
+pub struct NewSlot<'n> {
     pub base: BaseType,
     pub size: Option<u32>,
     pub label: Option<LabelParts>,
     pub at: usize,
-    pub name: SlotName,
+    pub name: &'n str,
 }
 
 /// The globals that are declared so far, the slots of the procedure that is resolved, and the table of labels, in which they name
@@ -192,9 +192,11 @@ impl DeclaredVariables {
     /// # Errors
     ///
     /// Out of memory.
-    pub fn declare(&mut self, new: NewSlot) -> Result<(), AllocError>
+    #[inline(never)]
+    pub fn declare(&mut self, alloc: Global, new: NewSlot<'_>) -> Result<(), AllocError>
         requires room { length self.old.labels < most_nodes }
-        ensures { OnOk result (IsSlotAdded (new_slot_entry self.old.labels new) self.old self.new) }
+        ensures { OnOk result
+            (IsSlotAdded (new_slot_entry self.old.labels new.entry) self.old self.new) }
     {
         let NewSlot {
             base,
@@ -204,6 +206,7 @@ impl DeclaredVariables {
             name,
         } = new;
         let written = self.add_optional_label(label)?;
+        let name = SlotName::of(alloc, name)?;
         self.push_slot(Slot {
             base,
             size,

@@ -4,8 +4,9 @@ use Rattle.std.specs.List.{Contains}
 use Rattle.std.proofs.lemmas.List.Sorted.{Contains-permutation, IsPermutation-sym}
 use Rattle.std.proofs.lemmas.Bool.{cases_eq, cases_lt}
 use Rattle.modules.specs.declared.declaration.Handler.{Handler}
-use Rattle.verifier.specs.Coverage.{IsCoverage, IsSortedByStart, Waits, leaf, left, total}
+use Rattle.verifier.specs.Coverage.{IsCoverage, IsSortedByStart, IsTree, Waits, leaf, left, total}
 use Rattle.verifier.specs.declared.coverage.Coverage.{Coverage}
+use Rattle.verifier.specs.declared.ends.MaximumTree.{MaximumTree}
 use Rattle.verifier.proofs.Shared.{any_default}
 
 -- ---- sums
@@ -57,17 +58,62 @@ module _ (c : Coverage) (at : ℕ) (good : IsCoverage c) where
     | inr end ↦ omega (arith, end, low w.index (omega (arith, w.inside, good.room)))
   ]
 
-  pub above_inside : (index : ℕ) → at < leaf c.ends index → index < length c.handlers.items
-  above_inside index above = elim (cases_lt index (length c.handlers.items)) [
+  pub above_inside : (index : ℕ) → 0 < length c.handlers.items → at < leaf c.ends index → index < length c.handlers.items
+  above_inside index some above = elim (cases_lt index (length c.handlers.items)) [
     | inl less ↦ less
-    | inr from ↦ absurd (omega (arith, good.after index from, above))
+    | inr from ↦ absurd (omega (arith, good.after some index from, above))
   ]
+
+-- with offsets that none that waits covers
+pub quieted : (c : Coverage) (quiet : ℕ × ℕ) → IsCoverage c → ((h : Handler) (at : ℕ) → Waits c h → quiet.0 ≤ at → at < quiet.1 → h.start ≤ at → at < h.end → ⊥) → IsCoverage (record { handlers = c.handlers; ends = c.ends; quiet = quiet })
+quieted c quiet good none = record {
+  rises = good.rises;
+  tree = good.tree;
+  room = good.room;
+  ends = good.ends;
+  after = good.after;
+  quiet = λ h at w low high. none h at (record { index = w.index; inside = w.inside; there = w.there; waits = w.waits }) low high;
+}
+
+-- none from an offset on, where no number is above it
+pub quiet_to_end : (c : Coverage) (from to : ℕ) → IsCoverage c → ((k : ℕ) → k < c.ends.width → leaf c.ends k ≤ from) → IsCoverage (record { handlers = c.handlers; ends = c.ends; quiet = (from, to) })
+quiet_to_end c from to good low =
+    quieted c (from, to) good (λ h at w after before starts ends. omega (arith, all_over c from good low h w, after, ends))
+
+-- none from an offset on up to where the first handler starts whose number is above it
+pub quiet_to_start : (c : Coverage) (from : ℕ) → IsCoverage c → (index : ℕ) (first : Handler) → index < length c.handlers.items → first ≡ get_or c.handlers.items index first → ((k : ℕ) → k < index → leaf c.ends k ≤ from)
+    → IsCoverage (record { handlers = c.handlers; ends = c.ends; quiet = (from, first.start) })
+quiet_to_start c from good index first inside is low =
+    quieted c (from, first.start) good (λ h at w after before starts ends. later_waits c at good index first inside is before (λ k below. omega (arith, low k below, after)) h w starts ends)
 
 -- a handler was taken: its number is 0
 pub taken_left : (c new : Coverage) (index : ℕ) → new.ends.width ≡ c.ends.width → leaf new.ends index ≡ 0 → ((k : ℕ) → k ≢ index → leaf new.ends k ≡ leaf c.ends k) → index < c.ends.width → 0 < leaf c.ends index → left new < left c
 taken_left c new index width changed others inside positive =
     let less = total_less (leaf c.ends) (leaf new.ends) c.ends.width index inside (omega (arith, changed, positive)) others in
     omega (arith, less, ap (total (leaf new.ends)) width)
+
+-- a handler was taken, and no other one waits for it
+pub taken_coverage : (c : Coverage) (ends : MaximumTree) (index : ℕ) → IsCoverage c → IsTree ends.nodes.items ends.width → ends.width ≡ c.ends.width → leaf ends index ≡ 0 → ((k : ℕ) → k ≢ index → leaf ends k ≡ leaf c.ends k) → IsCoverage (record { handlers = c.handlers; ends = ends; quiet = c.quiet })
+taken_coverage c ends index good tree width changed others = record {
+  rises = good.rises;
+  tree = λ some. tree;
+  room = omega (arith, good.room, width);
+  ends = λ k h inside there. elim (cases_eq k index) [
+    | inl same ↦ inl (ap (leaf ends) same ∙ changed)
+    | inr ne ↦ elim (good.ends k h inside there) [ inl none ↦ inl (others k ne ∙ none) | inr end ↦ inr (others k ne ∙ end) ]
+  ];
+  after = λ some k from. elim (cases_eq k index) [
+    | inl same ↦ ap (leaf ends) same ∙ changed
+    | inr ne ↦ others k ne ∙ good.after some k from
+  ];
+  quiet = λ h at w after before. good.quiet h at (still h w) after before;
+}
+  where
+    still : (h : Handler) → Waits (record { handlers = c.handlers; ends = ends; quiet = c.quiet }) h → Waits c h
+    still h w = elim (cases_eq w.index index) [
+      | inl same ↦ absurd (omega (arith, w.waits, ap (leaf ends) same, changed))
+      | inr ne ↦ record { index = w.index; inside = w.inside; there = w.there; waits = omega (arith, w.waits, others w.index ne) }
+    ]
 
 -- ---- all wait
 
@@ -79,3 +125,13 @@ module _ (handlers : List Handler) (c : Coverage) (order : IsSortedByStart handl
   all_wait ends h at there high =
       let s = sorted_contains handlers c.handlers.items h order there in
       record { index = s.0; inside = s.1; there = s.2; waits = omega (arith, ends s.0 h s.1 s.2, high) }
+
+  pub restarted : IsTree c.ends.nodes.items c.ends.width → length c.handlers.items ≤ c.ends.width → ((k : ℕ) (h : Handler) → k < length c.handlers.items → get_or c.handlers.items k h ≡ h → leaf c.ends k ≡ h.end) → ((k : ℕ) → length c.handlers.items ≤ k → leaf c.ends k ≡ 0) → c.quiet.1 ≡ 0 → IsCoverage c
+  restarted tree room done after loud = record {
+    rises = order.rises;
+    tree = λ some. tree;
+    room = room;
+    ends = λ k h inside there. inr (done k h inside there);
+    after = λ some. after;
+    quiet = λ h at w from before. absurd (omega (arith, before, loud));
+  }

@@ -169,7 +169,7 @@ first_boundary p (i ∷ code) e = inr (i, ap (λ (c : List Instruction). instruc
 pub boundaries : (m : ModuleContents) (p : ProcedureContents) → IsRight m p → KeepsBoundaries p
 boundaries m p right = record {
   next = λ at i there. next_boundary p.code at i there;
-  jumps = λ at i to there is. inr (started (instruction_at p.code to) (jump_right m p i to (right.instructions at i there) is));
+  jumps = λ at i to there is. started (instruction_at p.code to) (jump_right m p i to (right.instructions at i there) is);
   caught = λ h there.
       let both = and_parts (is_start p h.start) _ (handler_parts m p h (right.handlers h there)) in
       inr (started (instruction_at p.code h.target) (and_parts (is_start p h.target) (is_end p h.end && nat_lt h.start h.end) both.1).0);

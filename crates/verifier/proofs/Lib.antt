@@ -8,6 +8,7 @@ pub mod Indices
 pub mod Laws
 pub mod NeverStuck
 pub mod Offsets
+pub mod Exchanged
 pub mod Reaching
 pub mod Reported
 pub mod Transitions

@@ -125,7 +125,7 @@ act_good m free p s (Throw exception) after st d e =
 
 edge_boundary : (m : ModuleContents) (p : ProcedureContents) → KeepsBoundaries p → (at : ℕ) (kinds : List BaseType) (to : ℕ) (after : List BaseType) → Edge m p at kinds to after → IsBoundary p to
 edge_boundary m p boundaries at kinds _ _ (next i to after is e goes to_is) = subst (IsBoundary p) (sym to_is) (boundaries.next at i is)
-edge_boundary m p boundaries at kinds _ _ (jumps i to after is e target) = boundaries.jumps at i to is target
+edge_boundary m p boundaries at kinds _ _ (jumps i to after is e target) = inr (boundaries.jumps at i to is target)
 edge_boundary m p boundaries at kinds _ _ (caught i h is there low high) = boundaries.caught h there
 
 flow_boundary : (m : ModuleContents) (p : ProcedureContents) → KeepsBoundaries p → (table : ℕ → Option (List BaseType)) → Flow m p table → (at : ℕ) (kinds : List BaseType) → table at ≡ Some kinds → IsBoundary p at

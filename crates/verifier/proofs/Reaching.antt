@@ -1,6 +1,6 @@
 -- Control goes from a offset to another one.
 use Rattle.common.specs.Functions.{updated}
-use Rattle.std.proofs.Common.{replicate, ◌≡◌, ◌≢◌, ◌⊎◌, inl, inr, ℕ, suc, zero, ◌+◌, ◌<◌, ◌≤◌, ◌==◌, Bool, true, false, if◌then◌else◌, List, [], ◌∷◌, ◌++◌, length, get_or, set, take, Option, Some, None, pos, refl, sym, ap, ◌∙◌, subst, arith, length-append}
+use Rattle.std.proofs.Common.{is_some, map, slice_get, replicate, ◌≡◌, ◌≢◌, ◌⊎◌, inl, inr, ℕ, suc, zero, ◌+◌, ◌<◌, ◌≤◌, ◌==◌, Bool, true, false, if◌then◌else◌, List, [], ◌∷◌, ◌++◌, length, get_or, set, take, Option, Some, None, pos, refl, sym, ap, ◌∙◌, subst, arith, length-append}
 use Rattle.std.specs.List.{Contains}
 use Rattle.std.proofs.lemmas.Bool.Decides.{nat_tests}
 use Rattle.std.proofs.lemmas.List.{length-replicate, get_or-set_same, get_or-set_other, get_or_append_left}
@@ -9,28 +9,30 @@ use Rattle.std.proofs.Math.ListN.{length-set}
 use Rattle.std.proofs.lemmas.Bool.{cases_lt, eqb-true, cases_eq}
 use Rattle.modules.specs.Contents.{ProcedureContents, ModuleContents}
 use Rattle.modules.specs.Code.{width_of, code_length, instruction_at, offset_at}
-use Rattle.modules.specs.declared.instruction.Instruction.TheVariants.{Push}
+use Rattle.modules.specs.declared.instruction.Instruction.TheVariants.{Push, Jump, JumpIfFalse}
 use Rattle.std.proofs.lemmas.Option.{slice_get-get_or}
 use Rattle.verifier.specs.Index.{index_of}
 use Rattle.common.specs.declared.base_type.BaseType.{BaseType}
 use Rattle.modules.specs.declared.declaration.Handler.{Handler}
 use Rattle.modules.specs.declared.instruction.Instruction.{Instruction}
 use Rattle.verifier.specs.declared.fault.CodeRefusalKind.{CodeRefusalKind}
-use Rattle.modules.specs.Targets.{goes_on, target_of}
-use Rattle.verifier.specs.Flow.{Edge, next, jumps, caught, Flow, starts, grows, misses, meets, falls, IsRefusedForOperands, FlowsWell, between, effect, all_popped, exchanged, and_then, Leaves, Misses}
+use Rattle.modules.specs.Targets.{goes_on, renamed_instruction, target_of}
+use Rattle.verifier.specs.Positions.{or_zero, position_of}
+use Rattle.verifier.specs.Work.{listed_at}
+use Rattle.verifier.specs.declared.work.ListedOffset.{ListedOffset}
+use Rattle.verifier.specs.Flow.{Edge, next, jumps, caught, Flow, starts, grows, misses, meets, falls, IsRefusedForOperands, FlowsWell, between, effect, Effect, Leaves, Misses}
 use Rattle.verifier.specs.SignatureParts.{nowhere, pushed}
-use Rattle.verifier.specs.Signatures.{signature}
 use Rattle.verifier.specs.Operands.{list_of, IsLonger}
 use Rattle.verifier.specs.Boundaries.{IsBoundary, KeepsBoundaries}
 use Rattle.verifier.specs.Coverage.{IsCoverage, Waits}
 use Rattle.verifier.specs.Depth as Depth
 use Rattle.verifier.specs.Depth.{IsMet, found}
-use Rattle.verifier.specs.Search.{list_for, shape_at, shape_for, table, AreMet, IsWaiting, StandsAt, HasFollowedEdges, IsSearching, IsAtEdge, Flowed, KeepsSearching, IsApplied, HasEffect, HasInstruction, StartsWithEmpty, left, unset}
-use Rattle.verifier.specs.declared.fault.CodeRefusalKind.TheVariants.{OperandKind, FallsOffEnd}
+use Rattle.verifier.specs.Search.{list_for, shape_at, shape_for, table, jump_of, AreMet, IsListed, IsWaiting, StandsAt, HasFollowedEdges, IsSearching, IsAtEdge, Flowed, KeepsSearching, IsApplied, HasEffect, HasInstruction, StartsWithEmpty, left, unset}
+use Rattle.verifier.specs.declared.fault.CodeRefusalKind.TheVariants.{FallsOffEnd}
 use Rattle.verifier.specs.declared.coverage.Coverage.{Coverage}
 use Rattle.verifier.specs.declared.search.ReachedOffsets.{ReachedOffsets}
 use Rattle.verifier.proofs.Offsets.{code_length_least}
-use Rattle.verifier.proofs.Indices.{begins_at, by_index, first_offset, last_offset, length-indices, number_found, numbered_at}
+use Rattle.verifier.proofs.Indices.{begins_at, by_index, first_offset, index_is_position, last_offset, length-indices, number_found, numbered_at}
 use Rattle.verifier.proofs.Laws.{IsFinished, flows_well, changed_at}
 
 fun_ext : {f g : ℕ → Option (List BaseType)} → ((x : ℕ) → f x ≡ g x) → f ≡ g
@@ -73,6 +75,34 @@ stands_last p index to number is e boundary last =
       | inr begins ↦ absurd (let no : Some begins.0 ≡ None = sym begins.1 ∙ by_index p.code index to None is e in cc)
     ]
 
+-- the position of an instruction's offset is its number
+pub stands_position : (p : ProcedureContents) (to : ℕ) → (i : Instruction) × (instruction_at p.code to ≡ Some i) → StandsAt p (position_of p.code to) to
+stands_position p to begins = split (get_or (index_of p.code) to None) refl
+  where
+    split : (o : Option ℕ) → get_or (index_of p.code) to None ≡ o → StandsAt p (position_of p.code to) to
+    split None e = absurd (let no : Some begins.0 ≡ None = sym begins.1 ∙ by_index p.code (index_of p.code) to None refl (sym e) in cc)
+    split (Some number) e =
+        subst (λ n. StandsAt p n to) (ap or_zero (sym e ∙ index_is_position p.code to)) (stands_found p (index_of p.code) to number refl e)
+
+renamed_target : (f : ℕ → ℕ) (i : Instruction) (to : ℕ) → target_of i ≡ Some to → target_of (renamed_instruction f i) ≡ Some (f to)
+renamed_target f (Jump target) to e = let same : target ≡ to = cc in ap (λ t. Some (f t)) same
+renamed_target f (JumpIfFalse target) to e = let same : target ≡ to = cc in ap (λ t. Some (f t)) same
+renamed_target f _ to e = absurd (let no : None ≡ Some to = e in cc)
+
+-- where an instruction jumps, as a position
+pub jump_placed : (f : ℕ → ℕ) (code : List Instruction) (number : ℕ) (i : Instruction) (to : ℕ) → slice_get code number ≡ Some i → target_of i ≡ Some to → jump_of (slice_get (map (renamed_instruction f) code) number) ≡ Some (f to)
+jump_placed f [] number i to is e = absurd (let no : None ≡ Some i = is in cc)
+jump_placed f (j ∷ code) zero i to is e = let same : j ≡ i = cc in renamed_target f j to (ap target_of same ∙ e)
+jump_placed f (j ∷ code) (suc number) i to is e = jump_placed f code number i to is e
+
+pub jump_inside : (code : List Instruction) (number : ℕ) → is_some (jump_of (slice_get code number)) ≡ true → number < length code
+jump_inside [] number e = absurd (let no : false ≡ true = e in cc)
+jump_inside (i ∷ code) zero e = omega arith
+jump_inside (i ∷ code) (suc number) e = omega (arith, jump_inside code number e)
+
+pub jump_there : (code : List Instruction) (number : ℕ) (d : Instruction) → number < length code → jump_of (slice_get code number) ≡ target_of (get_or code number d)
+jump_there code number d inside = ap jump_of (slice_get-get_or code number d inside)
+
 -- an edge to the end is refused
 pub falls_at : (m : ModuleContents) (p : ProcedureContents) (s : ReachedOffsets) (busy : List ℕ) (at to : ℕ) (after : List BaseType) → IsSearching m p s busy → IsAtEdge m p s at to after → to ≡ code_length p.code → IsRefusedForOperands m p to FallsOffEnd
 falls_at m p s busy at to after g e is =
@@ -85,7 +115,7 @@ meets_at m p s busy at to after others kind g e inside there ne is =
     subst (IsRefusedForOperands m p to) (sym is) (meets (table p s) at e.kinds to after others g.flow e.has e.edge inside there ne)
 
 -- the search with one more list
-module _ (m : ModuleContents) (p : ProcedureContents) (s new : ReachedOffsets) (at to number list : ℕ) (g : IsSearching m p s (at ∷ [])) (e : IsAtEdge m p s at to (list_of s.operands list)) (known : list < length s.operands) (place : StandsAt p number to) (inside : number < length s.shapes) (unset_there : get_or s.shapes number None ≡ None) (lists : new.operands ≡ s.operands) (shapes : new.shapes ≡ set s.shapes number (Some list)) (work : new.work ≡ s.work ++ to ∷ []) where
+module _ (m : ModuleContents) (p : ProcedureContents) (s new : ReachedOffsets) (at to number list : ℕ) (g : IsSearching m p s (at ∷ [])) (e : IsAtEdge m p s at to (list_of s.operands list)) (known : list < length s.operands) (place : StandsAt p number to) (inside : number < length s.shapes) (unset_there : get_or s.shapes number None ≡ None) (lists : new.operands ≡ s.operands) (shapes : new.shapes ≡ set s.shapes number (Some list)) (work : new.work ≡ s.work ++ listed_at to number list ∷ []) where
   within : number < length p.code
   within = omega (arith, inside, g.sized)
 
@@ -146,6 +176,20 @@ module _ (m : ModuleContents) (p : ProcedureContents) (s new : ReachedOffsets) (
     caught = λ h c l m. keeps h.target [] (k.caught h c l m);
   }
 
+  kept_listed : (l : ListedOffset) → IsListed p s l → IsListed p new l
+  kept_listed l h = record {
+    number = h.number;
+    list = keeps l.at (list_of s.operands l.list) h.list ∙ ap (λ ls. Some (list_of ls l.list)) (sym lists);
+    inside = omega (arith, h.inside, ap length lists);
+  }
+
+  here : IsListed p new (listed_at to number list)
+  here = record {
+    number = place.there;
+    list = arrives ∙ ap (λ ls. Some (list_of ls list)) (sym lists);
+    inside = omega (arith, known, ap length lists);
+  }
+
   pub flowed : Flowed m p s new at to list
   flowed = record {
     searching = record {
@@ -163,21 +207,21 @@ module _ (m : ModuleContents) (p : ProcedureContents) (s new : ReachedOffsets) (
       met = subst (AreMet m p) (sym lists) g.met;
       flow = subst (Flow m p) (sym (fun_ext is_changed)) (grows (table p s) at e.kinds to (list_of s.operands list) g.flow e.has e.edge was_none);
       pending = λ offset kinds h. elim (cases_eq offset to) [
-        | inl same ↦ inl (subst (λ w. Contains w offset) (sym work) (subst (Contains (s.work ++ to ∷ [])) (sym same) (Contains-push s.work to)))
+        | inl same ↦ inl (record { listed = listed_at to number list; there = subst (λ w. Contains w (listed_at to number list)) (sym work) (Contains-push s.work (listed_at to number list)); is = sym same })
         | inr ne ↦ elim (g.pending offset kinds (sym (others offset ne) ∙ h)) [
-          | inl w ↦ inl (subst (λ l. Contains l offset) (sym work) (Contains-append_left s.work (to ∷ []) offset w))
+          | inl w ↦ inl (record { listed = w.listed; there = subst (λ l. Contains l w.listed) (sym work) (Contains-append_left s.work (listed_at to number list ∷ []) w.listed w.there); is = w.is })
           | inr b ↦ elim b [ inl busy ↦ inr (inl busy) | inr k ↦ inr (inr (kept offset kinds k)) ]
         ]
       ];
-      waits = λ offset w. elim (Contains-push_cases s.work to offset (subst (λ l. Contains l offset) work w)) [
-        | inl old ↦ let h = g.waits offset old in (h.0, keeps offset h.0 h.1)
-        | inr same ↦ (list_of s.operands list, ap (table p new) (sym same) ∙ arrives)
+      waits = λ l w. elim (Contains-push_cases s.work (listed_at to number list) l (subst (λ v. Contains v l) work w)) [
+        | inl old ↦ kept_listed l (g.waits l old)
+        | inr same ↦ subst (IsListed p new) same here
       ];
     };
     keeps = keeps;
     arrives = arrives;
     same = lists;
-    left = omega (arith, ap unset shapes, unset_set s.shapes number list inside unset_there, ap length work, length-append s.work (to ∷ []));
+    left = omega (arith, ap unset shapes, unset_set s.shapes number list inside unset_there, ap length work, length-append s.work (listed_at to number list ∷ []));
   }
 
 -- the list was there
@@ -206,12 +250,15 @@ table_finished m p s g empty = record {
     every : (at : ℕ) (kinds : List BaseType) → table p s at ≡ Some kinds → HasFollowedEdges m p s at kinds
     every at kinds h =
         elim (g.pending at kinds h) [
-          | inl w ↦ absurd (nothing at (subst (λ l. Contains l at) empty w))
+          | inl w ↦ absurd (none_waits w.listed (subst (λ l. Contains l w.listed) empty w.there))
           | inr b ↦ elim b [ inl busy ↦ absurd (nothing at busy) | inr k ↦ k ]
         ]
       where
         nothing : (at : ℕ) → Contains [] at → ⊥
         nothing at c = omega (arith, c.1)
+
+        none_waits : (l : ListedOffset) → Contains [] l → ⊥
+        none_waits l c = omega (arith, c.1)
 
     along : (at : ℕ) (kinds : List BaseType) → HasFollowedEdges m p s at kinds → (to : ℕ) (after : List BaseType) → Edge m p at kinds to after → table p s to ≡ Some after
     along at kinds k _ _ (next i to after is e goes to_is) =
@@ -281,10 +328,14 @@ module _ (m : ModuleContents) (p : ProcedureContents) (s new : ReachedOffsets) (
     flow = subst (Flow m p) (sym (fun_ext same_table)) g.flow;
     met = all_met;
     pending = λ offset kinds h. elim (g.pending offset kinds (sym (same_table offset) ∙ h)) [
-      | inl w ↦ inl (subst (λ (v : List ℕ). Contains v offset) (sym work) w)
+      | inl w ↦ inl (record { listed = w.listed; there = subst (λ (v : List ListedOffset). Contains v w.listed) (sym work) w.there; is = w.is })
       | inr b ↦ elim b [ inl busy ↦ inr (inl busy) | inr k ↦ inr (inr (kept offset kinds k)) ]
     ];
-    waits = λ offset w. let h = g.waits offset (subst (λ (v : List ℕ). Contains v offset) work w) in (h.0, same_table offset ∙ h.1);
+    waits = λ l w. let h = g.waits l (subst (λ (v : List ListedOffset). Contains v l) work w) in record {
+      number = h.number;
+      list = same_table l.at ∙ h.list ∙ ap Some (sym (ap (λ ls. list_of ls l.list) longer.1 ∙ get_or_append_left s.operands longer.0 [] l.list h.inside));
+      inside = omega (arith, h.inside, ap length longer.1, length-append s.operands longer.0);
+    };
   }
     where
       all_met : AreMet m p new.operands
@@ -306,12 +357,9 @@ module _ (m : ModuleContents) (p : ProcedureContents) (s new : ReachedOffsets) (
       }
 
   pub same_left : left new ≡ left s
-  same_left = ap (λ v. unset v + length new.work) shapes ∙ ap (λ (v : List ℕ). unset s.shapes + length v) work
+  same_left = ap (λ v. unset v + length new.work) shapes ∙ ap (λ (v : List ListedOffset). unset s.shapes + length v) work
 
 -- ---- steps from a offset
-
-pub steps_of : (m : ModuleContents) (p : ProcedureContents) (old new : ReachedOffsets) (at to list : ℕ) → Flowed m p old new at to list → KeepsSearching m p old new at
-steps_of m p old new at to list f = record { searching = f.searching; keeps = f.keeps; same = f.same; left = f.left }
 
 pub edge_next : (m : ModuleContents) (p : ProcedureContents) (s : ReachedOffsets) (at to : ℕ) (i : Instruction) (after : List BaseType) → HasEffect m p s at i after → goes_on i ≡ true → to ≡ at + width_of i → IsAtEdge m p s at to after
 edge_next m p s at to i after h goes is = record { kinds = h.kinds; has = h.has; edge = next i to after h.there h.effect goes is }
@@ -322,23 +370,21 @@ edge_jump m p s at to i after h is = record { kinds = h.kinds; has = h.has; edge
 pub edge_caught : (m : ModuleContents) (p : ProcedureContents) (s : ReachedOffsets) (at : ℕ) (kinds : List BaseType) (i : Instruction) (h : Handler) → table p s at ≡ Some kinds → instruction_at p.code at ≡ Some i → Contains p.handlers h → h.start ≤ at → at < h.end → IsAtEdge m p s at h.target []
 edge_caught m p s at kinds i h has is inside low high = record { kinds = kinds; has = has; edge = caught i h is inside low high }
 
--- what an instruction of this procedure makes of kinds
-effect_own : (m : ModuleContents) (p : ProcedureContents) (i : Instruction) (kinds : List BaseType) → (signature m p i).own ≡ true → effect m p i kinds ≡ exchanged (signature m p i) kinds
-effect_own m p i kinds own = ap (λ (b : Bool). if b then exchanged (signature m p i) kinds else Misses OperandKind) own
+-- an instruction that misses an operand is refused
+pub misses_by : (m : ModuleContents) (p : ProcedureContents) (s : ReachedOffsets) (busy : List ℕ) (at : ℕ) (kinds : List BaseType) (i : Instruction) (wrong : CodeRefusalKind) → IsSearching m p s busy → table p s at ≡ Some kinds → instruction_at p.code at ≡ Some i → effect m p i kinds ≡ Misses wrong → IsRefusedForOperands m p at wrong
+misses_by m p s busy at kinds i wrong g has is e = misses (table p s) at kinds i wrong g.flow has is e
 
-pub misses_at : (m : ModuleContents) (p : ProcedureContents) (s : ReachedOffsets) (busy : List ℕ) (at : ℕ) (kinds : List BaseType) (i : Instruction) (wrong : CodeRefusalKind) → IsSearching m p s busy → table p s at ≡ Some kinds → instruction_at p.code at ≡ Some i → (signature m p i).own ≡ true → all_popped (signature m p i).pops kinds ≡ Misses wrong → IsRefusedForOperands m p at wrong
-misses_at m p s busy at kinds i wrong g has is own e =
-    misses (table p s) at kinds i wrong g.flow has is (effect_own m p i kinds own ∙ ap (λ o. and_then o (λ rest. Leaves (pushed (signature m p i).pushes rest))) e)
+-- what it leaves, where nothing or one kind is still to be pushed
+pub leaves_rest : (o : Option BaseType) (e : Effect) (rest : List BaseType) → e ≡ Leaves (pushed o rest) → o ≡ None → e ≡ Leaves rest
+leaves_rest o e rest is none = is ∙ ap (λ p. Leaves (pushed p rest)) none
 
-pub misses_own : (m : ModuleContents) (p : ProcedureContents) (s : ReachedOffsets) (busy : List ℕ) (at : ℕ) (kinds : List BaseType) (i : Instruction) → IsSearching m p s busy → table p s at ≡ Some kinds → instruction_at p.code at ≡ Some i → (signature m p i).own ≡ false → IsRefusedForOperands m p at OperandKind
-misses_own m p s busy at kinds i g has is own =
-    misses (table p s) at kinds i OperandKind g.flow has is (ap (λ (b : Bool). if b then exchanged (signature m p i) kinds else Misses OperandKind) own)
+pub leaves_more : (o : Option BaseType) (e : Effect) (rest : List BaseType) (kind : BaseType) → e ≡ Leaves (pushed o rest) → o ≡ Some kind → e ≡ Leaves (kind ∷ rest)
+leaves_more o e rest kind is some = is ∙ ap (λ p. Leaves (pushed p rest)) some
 
 -- what an instruction pushes is met, and where it pushes nothing there is no new list
-pub pushed_met : (m : ModuleContents) (p : ProcedureContents) (s : ReachedOffsets) (busy : List ℕ) (more : List (List BaseType)) (at : ℕ) (kinds rest after : List BaseType) (i : Instruction) → IsSearching m p s busy → table p s at ≡ Some kinds → instruction_at p.code at ≡ Some i → (signature m p i).own ≡ true → all_popped (signature m p i).pops kinds ≡ Leaves rest → pushed (signature m p i).pushes rest ≡ after → ((k : ℕ) → length s.operands ≤ k → k < length more → list_of more k ≡ after) → (k : ℕ) → length s.operands ≤ k → k < length more → IsMet m p (list_of more k)
-pushed_met m p s busy more at kinds rest after i g has is own e is_after new k low high =
-    subst (IsMet m p) (sym (new k low high))
-    (Depth.left (table p s) at kinds i after g.flow has is (effect_own m p i kinds own ∙ ap (λ o. and_then o (λ rest. Leaves (pushed (signature m p i).pushes rest))) e ∙ ap Leaves is_after))
+pub pushed_by : (m : ModuleContents) (p : ProcedureContents) (s : ReachedOffsets) (busy : List ℕ) (more : List (List BaseType)) (at : ℕ) (kinds after : List BaseType) (i : Instruction) → IsSearching m p s busy → table p s at ≡ Some kinds → instruction_at p.code at ≡ Some i → effect m p i kinds ≡ Leaves after → ((k : ℕ) → length s.operands ≤ k → k < length more → list_of more k ≡ after) → (k : ℕ) → length s.operands ≤ k → k < length more → IsMet m p (list_of more k)
+pushed_by m p s busy more at kinds after i g has is e new k low high =
+    subst (IsMet m p) (sym (new k low high)) (Depth.left (table p s) at kinds i after g.flow has is e)
 
 -- the list that an instruction leaves, where the lists grew
 pub applied : (m : ModuleContents) (p : ProcedureContents) (s new : ReachedOffsets) (at : ℕ) → IsSearching m p s (at ∷ []) → IsLonger s.operands new.operands → length new.operands ≤ length s.operands + 1 → new.shapes ≡ s.shapes → new.work ≡ s.work → ((k : ℕ) → length s.operands ≤ k → k < length new.operands → IsMet m p (list_of new.operands k)) → IsApplied m p s new at
@@ -349,13 +395,8 @@ applied m p s new at g longer few shapes work met = record {
   left = omega (arith, same_left m p s new (at ∷ []) g longer shapes work met);
 }
 
-pub has_effect : (m : ModuleContents) (p : ProcedureContents) (s new : ReachedOffsets) (at : ℕ) (kinds rest after : List BaseType) (i : Instruction) → IsApplied m p s new at → table p s at ≡ Some kinds → instruction_at p.code at ≡ Some i → (signature m p i).own ≡ true → all_popped (signature m p i).pops kinds ≡ Leaves rest → pushed (signature m p i).pushes rest ≡ after → HasEffect m p new at i after
-has_effect m p s new at kinds rest after i a has is own e is_after = record {
-  there = is;
-  kinds = kinds;
-  has = a.keeps at kinds has;
-  effect = effect_own m p i kinds own ∙ ap (λ o. and_then o (λ rest. Leaves (pushed (signature m p i).pushes rest))) e ∙ ap Leaves is_after;
-}
+pub effect_of : (m : ModuleContents) (p : ProcedureContents) (s new : ReachedOffsets) (at : ℕ) (kinds after : List BaseType) (i : Instruction) → IsApplied m p s new at → table p s at ≡ Some kinds → instruction_at p.code at ≡ Some i → effect m p i kinds ≡ Leaves after → HasEffect m p new at i after
+effect_of m p s new at kinds after i a has is e = record { there = is; kinds = kinds; has = a.keeps at kinds has; effect = e }
 
 -- an offset from which each edge was followed is kept
 pub all_followed : (m : ModuleContents) (p : ProcedureContents) (s new : ReachedOffsets) (at : ℕ) (i : Instruction) (after : List BaseType) → HasEffect m p s at i after → ((to : ℕ) → target_of i ≡ Some to → table p s to ≡ Some after) → ((h : Handler) → Contains p.handlers h → h.start ≤ at → at < h.end → table p s h.target ≡ Some []) → ((offset : ℕ) (kinds : List BaseType) → table p s offset ≡ Some kinds → table p new offset ≡ Some kinds) → (goes_on i ≡ true → table p new (at + width_of i) ≡ Some after) → IsSearching m p new (at ∷ []) → IsSearching m p new []
@@ -403,6 +444,14 @@ waiting_less p c rest s new h w good within others keeps arrives = record {
   ];
 }
 
+-- the same ones wait
+pub waiting_same : (p : ProcedureContents) (c rest : Coverage) (s : ReachedOffsets) → IsWaiting p c s → IsCoverage rest → ((x : Handler) → Waits rest x → Waits c x) → ((x : Handler) → Waits c x → Waits rest x) → IsWaiting p rest s
+waiting_same p c rest s w good within kept = record {
+  coverage = good;
+  real = λ x waits. w.real x (within x waits);
+  waits_or_entered = λ x at there low high. elim (w.waits_or_entered x at there low high) [ inl waits ↦ inl (kept x waits) | inr has ↦ inr has ];
+}
+
 -- none that covers an offset waits any more
 pub all_entered : (p : ProcedureContents) (c : Coverage) (s : ReachedOffsets) (at : ℕ) → IsWaiting p c s → ((x : Handler) → Waits c x → x.start ≤ at → at < x.end → ⊥) → (h : Handler) → Contains p.handlers h → h.start ≤ at → at < h.end → table p s h.target ≡ Some []
 all_entered p c s at w none h there low high = elim (w.waits_or_entered h at there low high) [
@@ -429,7 +478,7 @@ no_items [] e = refl
 no_items (x ∷ xs) e = absurd (omega arith)
 
 -- a offset is taken from those that wait
-module _ (m : ModuleContents) (p : ProcedureContents) (s new : ReachedOffsets) (at : ℕ) (g : IsSearching m p s []) (operands : new.operands ≡ s.operands) (shapes : new.shapes ≡ s.shapes) (work : s.work ≡ new.work ++ at ∷ []) where
+module _ (m : ModuleContents) (p : ProcedureContents) (s new : ReachedOffsets) (listed : ListedOffset) (g : IsSearching m p s []) (operands : new.operands ≡ s.operands) (shapes : new.shapes ≡ s.shapes) (work : s.work ≡ new.work ++ listed ∷ []) where
   taken_table : (offset : ℕ) → table p new offset ≡ table p s offset
   taken_table offset = ap (λ (v : List (Option ℕ)). list_for new.operands (shape_for v (get_or (index_of p.code) offset None))) shapes ∙ ap (λ ls. list_for ls (shape_at p s offset)) operands
 
@@ -444,7 +493,14 @@ module _ (m : ModuleContents) (p : ProcedureContents) (s new : ReachedOffsets) (
     caught = λ h c l m. taken_table h.target ∙ k.caught h c l m;
   }
 
-  pub taken : IsSearching m p new (at ∷ [])
+  taken_listed_one : (l : ListedOffset) → IsListed p s l → IsListed p new l
+  taken_listed_one l h = record {
+    number = h.number;
+    list = taken_table l.at ∙ h.list ∙ ap (λ ls. Some (list_of ls l.list)) (sym operands);
+    inside = omega (arith, h.inside, ap length operands);
+  }
+
+  pub taken : IsSearching m p new (listed.at ∷ [])
   taken = record {
     root = subst StartsWithEmpty (sym operands) g.root;
     sized = ap length shapes ∙ g.sized;
@@ -454,23 +510,28 @@ module _ (m : ModuleContents) (p : ProcedureContents) (s new : ReachedOffsets) (
     flow = subst (Flow m p) (sym (fun_ext taken_table)) g.flow;
     met = subst (AreMet m p) (sym operands) g.met;
     pending = λ offset kinds h. elim (g.pending offset kinds (sym (taken_table offset) ∙ h)) [
-      | inl w ↦ elim (Contains-push_cases new.work at offset (subst (λ l. Contains l offset) work w)) [
-        | inl rest ↦ inl rest
-        | inr same ↦ inr (inl (subst (Contains (at ∷ [])) same (Contains-push [] at)))
+      | inl w ↦ elim (Contains-push_cases new.work listed w.listed (subst (λ l. Contains l w.listed) work w.there)) [
+        | inl rest ↦ inl (record { listed = w.listed; there = rest; is = w.is })
+        | inr same ↦ inr (inl (subst (Contains (listed.at ∷ [])) (ap (λ (l : ListedOffset). l.at) same ∙ w.is) (Contains-push [] listed.at)))
       ]
       | inr b ↦ elim b [ inl busy ↦ absurd (omega (arith, busy.1)) | inr k ↦ inr (inr (taken_kept offset kinds k)) ]
     ];
-    waits = λ offset w. let h = g.waits offset (subst (λ l. Contains l offset) (sym work) (Contains-append_left new.work (at ∷ []) offset w)) in (h.0, taken_table offset ∙ h.1);
+    waits = λ l w. taken_listed_one l (g.waits l (subst (λ v. Contains v l) (sym work) (Contains-append_left new.work (listed ∷ []) l w)));
   }
 
   pub taken_left : left new + 1 ≡ left s
-  taken_left = omega (arith, ap unset shapes, ap length work, length-append new.work (at ∷ []))
+  taken_left = omega (arith, ap unset shapes, ap length work, length-append new.work (listed ∷ []))
 
-  pub taken_instruction : HasInstruction p new at
+  waited : IsListed p s listed
+  waited = g.waits listed (subst (λ l. Contains l listed) (sym work) (Contains-push new.work listed))
+
+  pub taken_listed : IsListed p new listed
+  taken_listed = taken_listed_one listed waited
+
+  pub taken_instruction : HasInstruction p new listed.at
   taken_instruction =
-      let h = g.waits at (subst (λ l. Contains l at) (sym work) (Contains-push new.work at)) in
-      let i = g.begins at h.0 h.1 in
-      record { instruction = i.0; there = i.1; kinds = h.0; has = taken_table at ∙ h.1 }
+      let i = g.begins listed.at (list_of s.operands listed.list) waited.list in
+      record { instruction = i.0; there = i.1; kinds = list_of s.operands listed.list; has = taken_table listed.at ∙ waited.list }
 
 -- ---- the start
 
@@ -489,7 +550,7 @@ all_unset (suc n) = ap suc (all_unset n)
 pub empty_falls : (m : ModuleContents) (p : ProcedureContents) → code_length p.code ≡ 0 → IsRefusedForOperands m p 0 FallsOffEnd
 empty_falls m p e = subst (λ t. IsRefusedForOperands m p t FallsOffEnd) e (falls (updated nowhere 0 (Some [])) [] starts (subst (λ t. updated nowhere 0 (Some []) t ≡ Some []) (sym e) (changed_at nowhere 0 [])))
 
-module _ (m : ModuleContents) (p : ProcedureContents) (s : ReachedOffsets) (n : ℕ) (size : length p.code ≡ suc n) (boundaries : KeepsBoundaries p) (operands : s.operands ≡ [] ∷ []) (shapes : s.shapes ≡ set (replicate (suc n) None) 0 (Some 0)) (work : s.work ≡ 0 ∷ []) where
+module _ (m : ModuleContents) (p : ProcedureContents) (s : ReachedOffsets) (n : ℕ) (size : length p.code ≡ suc n) (boundaries : KeepsBoundaries p) (operands : s.operands ≡ [] ∷ []) (shapes : s.shapes ≡ set (replicate (suc n) None) 0 (Some 0)) (work : s.work ≡ listed_at 0 0 0 ∷ []) where
   index_first : get_or (index_of p.code) 0 None ≡ Some 0
   index_first = number_found p.code 0 0 (omega (arith, size)) (first_offset p.code)
 
@@ -521,10 +582,17 @@ module _ (m : ModuleContents) (p : ProcedureContents) (s : ReachedOffsets) (n : 
     first = start_table 0 ∙ start_shape 0;
     flow = subst (Flow m p) (sym (fun_ext (λ offset. start_table offset ∙ start_shape offset))) starts;
     met = subst (AreMet m p) (sym operands) first_met;
-    pending = λ offset kinds h. inl (subst (λ l. Contains l offset) (sym work) (subst (Contains (0 ∷ [])) (sym (only_first offset kinds h)) (Contains-push [] 0)));
-    waits = λ offset w. elim (Contains-push_cases [] 0 offset (subst (λ l. Contains l offset) work w)) [ inl none ↦ absurd (omega (arith, none.1)) | inr same ↦ ([], ap (table p s) (sym same) ∙ start_table 0 ∙ start_shape 0) ];
+    pending = λ offset kinds h. inl (record { listed = listed_at 0 0 0; there = subst (λ l. Contains l (listed_at 0 0 0)) (sym work) (Contains-push [] (listed_at 0 0 0)); is = sym (only_first offset kinds h) });
+    waits = λ l w. elim (Contains-push_cases [] (listed_at 0 0 0) l (subst (λ v. Contains v l) work w)) [ inl none ↦ absurd (omega (arith, none.1)) | inr same ↦ subst (IsListed p s) same first_listed ];
   }
     where
+      first_listed : IsListed p s (listed_at 0 0 0)
+      first_listed = record {
+        number = first_offset p.code;
+        list = start_table 0 ∙ start_shape 0 ∙ ap (λ ls. Some (list_of ls 0)) (sym operands);
+        inside = omega (arith, ap length operands);
+      }
+
       first_met : AreMet m p ([] ∷ [])
       first_met zero inside = found (updated nowhere 0 (Some [])) 0 [] starts (changed_at nowhere 0 [])
       first_met (suc k) inside = absurd (omega arith)

@@ -40,20 +40,22 @@ pub record IsSortedByStart (handlers sorted : List Handler) : Type 0 where
   pub same : IsPermutation handlers sorted
   pub rises : IsNonDecreasingBy (λ handler. handler.start) sorted
 
--- handlers in the order of their starts, and for each its end or, where it waits no more, 0
-pub record IsCoverage (c : Coverage) : Type 0 where
-  pub rises : IsNonDecreasingBy (λ handler. handler.start) c.handlers.items
-  pub tree : IsTree c.ends.nodes.items c.ends.width
-  pub room : length c.handlers.items ≤ c.ends.width
-  pub ends : (k : ℕ) (h : Handler) → k < length c.handlers.items → slice_index_or c.handlers.items k h ≡ h → (leaf c.ends k ≡ 0) ⊎ (leaf c.ends k ≡ h.end)
-  pub after : (k : ℕ) → length c.handlers.items ≤ k → leaf c.ends k ≡ 0
-
 -- a handler that waits
 pub record Waits (c : Coverage) (h : Handler) : Type 0 where
   pub index : ℕ
   pub inside : index < length c.handlers.items
   pub there : slice_index_or c.handlers.items index h ≡ h
   pub waits : 0 < leaf c.ends index
+
+-- handlers in the order of their starts, and for each its end or, where it waits no more, 0; and offsets that none that waits covers.
+-- Where there is no handler, the tree is any one
+pub record IsCoverage (c : Coverage) : Type 0 where
+  pub rises : IsNonDecreasingBy (λ handler. handler.start) c.handlers.items
+  pub tree : 0 < length c.handlers.items → IsTree c.ends.nodes.items c.ends.width
+  pub room : length c.handlers.items ≤ c.ends.width
+  pub ends : (k : ℕ) (h : Handler) → k < length c.handlers.items → slice_index_or c.handlers.items k h ≡ h → (leaf c.ends k ≡ 0) ⊎ (leaf c.ends k ≡ h.end)
+  pub after : 0 < length c.handlers.items → (k : ℕ) → length c.handlers.items ≤ k → leaf c.ends k ≡ 0
+  pub quiet : (h : Handler) (at : ℕ) → Waits c h → c.quiet.0 ≤ at → at < c.quiet.1 → h.start ≤ at → at < h.end → ⊥
 
 -- the sum of the first numbers
 abbrev pub total : (ℕ → ℕ) → ℕ → ℕ

@@ -17,3 +17,4 @@ pub mod Verified
 pub mod RefusalKinds
 pub mod Parameters
 pub mod Positions
+pub mod Work

@@ -9,13 +9,14 @@ use Rattle.common.specs.declared.base_type.BaseType.{BaseType}
 use Rattle.modules.specs.declared.declaration.Handler.{Handler}
 use Rattle.modules.specs.Targets.{goes_on, target_of}
 use Rattle.verifier.specs.Flow.{Edge, Flow, Leaves, effect, IsRefusedForOperands}
+use Rattle.verifier.specs.Boundaries.{KeepsBoundaries}
 use Rattle.verifier.specs.Coverage.{IsCoverage, Waits}
 use Rattle.verifier.specs.Depth.{IsMet}
 use Rattle.verifier.specs.Index.{index_of}
 use Rattle.verifier.specs.Operands.{list_of}
 use Rattle.verifier.specs.declared.search.ReachedOffsets.{ReachedOffsets}
 use Rattle.verifier.specs.declared.search.FlowRefusal.{FlowRefusal}
-use Rattle.verifier.specs.declared.search.ListedOffset.{ListedOffset}
+use Rattle.verifier.specs.declared.work.ListedOffset.{ListedOffset}
 use Rattle.verifier.specs.declared.body.IndexedProcedure.{IndexedProcedure}
 use Rattle.verifier.specs.declared.coverage.Coverage.{Coverage}
 
@@ -74,6 +75,23 @@ pub record HaveLongest (m : ModuleContents) (p : ProcedureContents) (lists : Lis
   pub met : AreMet m p lists
   pub longest : (kinds : List BaseType) → IsMet m p kinds → (k : ℕ) × ((k < length lists) × (length kinds ≤ length (list_of lists k)))
 
+-- the instruction of a number stands at an offset; where there is none more, the code ends there
+pub record StandsAt (p : ProcedureContents) (number offset : ℕ) : Type 0 where
+  pub inside : number ≤ length p.code
+  pub there : offset_at p.code number ≡ offset
+
+-- a listed offset has the number of its instruction and its list
+pub record IsListed (p : ProcedureContents) (s : ReachedOffsets) (listed : ListedOffset) : Type 0 where
+  pub number : offset_at p.code listed.number ≡ listed.at
+  pub list : table p s listed.at ≡ Some (list_of s.operands listed.list)
+  pub inside : listed.list < length s.operands
+
+-- an offset waits
+pub record IsQueued (s : ReachedOffsets) (at : ℕ) : Type 0 where
+  pub listed : ListedOffset
+  pub there : Contains s.work listed
+  pub is : listed.at ≡ at
+
 -- a search at work: its table is one of the flow, its lists are met, and each offset that has a list waits, is being looked at, or
 -- is kept
 pub record IsSearching (m : ModuleContents) (p : ProcedureContents) (s : ReachedOffsets) (busy : List ℕ) : Type 0 where
@@ -84,19 +102,19 @@ pub record IsSearching (m : ModuleContents) (p : ProcedureContents) (s : Reached
   pub first : table p s 0 ≡ Some []
   pub flow : Flow m p (table p s)
   pub met : AreMet m p s.operands
-  pub pending : (at : ℕ) (kinds : List BaseType) → table p s at ≡ Some kinds → Contains s.work at ⊎ (Contains busy at ⊎ HasFollowedEdges m p s at kinds)
-  pub waits : (at : ℕ) → Contains s.work at → (kinds : List BaseType) × (table p s at ≡ Some kinds)
-
--- the instruction of a number stands at an offset; where there is none more, the code ends there
-pub record StandsAt (p : ProcedureContents) (number offset : ℕ) : Type 0 where
-  pub inside : number ≤ length p.code
-  pub there : offset_at p.code number ≡ offset
+  pub pending : (at : ℕ) (kinds : List BaseType) → table p s at ≡ Some kinds → IsQueued s at ⊎ (Contains busy at ⊎ HasFollowedEdges m p s at kinds)
+  pub waits : (listed : ListedOffset) → Contains s.work listed → IsListed p s listed
 
 -- ---- steps
 
 -- a search in which one more offset waits
-abbrev pub waiting : ReachedOffsets → ℕ → ReachedOffsets
-waiting s at = record { operands = s.operands; shapes = s.shapes; work = s.work ++ at ∷ [] }
+abbrev pub waiting : ReachedOffsets → ListedOffset → ReachedOffsets
+waiting s listed = record { operands = s.operands; shapes = s.shapes; work = s.work ++ listed ∷ [] }
+
+-- where the instruction of a number jumps, if it may
+abbrev pub jump_of : Option Instruction → Option ℕ
+jump_of None = None
+jump_of (Some i) = target_of i
 
 -- an edge from a offset that has a list
 pub record IsAtEdge (m : ModuleContents) (p : ProcedureContents) (s : ReachedOffsets) (at to : ℕ) (after : List BaseType) : Type 0 where
@@ -119,7 +137,7 @@ pub record KeepsSearching (m : ModuleContents) (p : ProcedureContents) (old new 
   pub same : new.operands ≡ old.operands
   pub left : left new ≤ left old
 
--- an instruction changed the list of its offset
+-- an instruction changed the list of its offset, and control went where it jumps
 pub record IsApplied (m : ModuleContents) (p : ProcedureContents) (old new : ReachedOffsets) (at : ℕ) : Type 0 where
   pub searching : IsSearching m p new (at ∷ [])
   pub keeps : (offset : ℕ) (kinds : List BaseType) → table p old offset ≡ Some kinds → table p new offset ≡ Some kinds
@@ -140,12 +158,6 @@ pub record HasInstruction (p : ProcedureContents) (s : ReachedOffsets) (at : ℕ
   pub kinds : List BaseType
   pub has : table p s at ≡ Some kinds
 
--- a listed offset has the number of its instruction and its list
-pub record IsListed (p : ProcedureContents) (s : ReachedOffsets) (listed : ListedOffset) : Type 0 where
-  pub number : offset_at p.code listed.number ≡ listed.at
-  pub list : table p s listed.at ≡ Some (list_of s.operands listed.list)
-  pub inside : listed.list < length s.operands
-
 -- a search at work that goes straight on to an offset, or to none
 abbrev pub IsSearchingNext : ModuleContents → ProcedureContents → ReachedOffsets → Option ListedOffset → Type 0
 IsSearchingNext m p s None = IsSearching m p s []
@@ -165,3 +177,18 @@ pub record IsWaiting (p : ProcedureContents) (c : Coverage) (s : ReachedOffsets)
 -- a refusal of a procedure for its flow
 abbrev pub IsOperandFlowRefusal : ModuleContents → ProcedureContents → FlowRefusal → Type 0
 IsOperandFlowRefusal m p refusal = IsRefusedForOperands m p refusal.offset refusal.kind
+
+-- control may go to the handlers of an offset that is being looked at
+pub record IsRaising (b : IndexedProcedure) (c : Coverage) (s : ReachedOffsets) (at : ℕ) : Type 0 where
+  pub body : IsSearchableBody b
+  pub boundaries : KeepsBoundaries b.procedure.now
+  pub searching : IsSearching b.program.now b.procedure.now s (at ∷ [])
+  pub there : HasInstruction b.procedure.now s at
+  pub waiting : IsWaiting b.procedure.now c s
+  pub room : length s.operands + left s ≤ 2 ^ 32
+
+-- control went to each of them
+pub record HasRaised (b : IndexedProcedure) (c : Coverage) (old new : ReachedOffsets) (at : ℕ) : Type 0 where
+  pub steps : KeepsSearching b.program.now b.procedure.now old new at
+  pub waiting : IsWaiting b.procedure.now c new
+  pub caught : (h : Handler) → Contains b.procedure.now.handlers h → h.start ≤ at → at < h.end → table b.procedure.now new h.target ≡ Some []

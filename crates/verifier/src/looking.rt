@@ -83,7 +83,7 @@ fn look_for_flow_refusal(
     if found.is_some() {
         return Ok(found);
     }
-    match search.find_refusal(body) {
+    match search.find_refusal(body, placed.as_slice()) {
         Ok(greatest_depth) => {
             codes.push(Code::new(placed, greatest_depth))?;
             Ok(None)

@@ -7,21 +7,23 @@ ghost use Rattle.common.specs.declared.base_type.BaseType.{BaseType};
 ghost use Rattle.common.specs.Answers.{IfRefused};
 ghost use Rattle.common.specs.declared.fault.OrNoMemory.TheVariants.{Refused};
 ghost use Rattle.std.specs.List.{Contains};
-ghost use Rattle.std.specs.Prelude.{List, Some, false, true, ℕ, [], ◌≡◌, ◌+◌, ◌<◌, ◌≤◌, ◌^◌, ◌∷◌, IfErr, IfOk, OnOk, length};
+ghost use Rattle.std.specs.Prelude.{List, Some, false, is_some, slice_get, true, ℕ, [], ◌≡◌, ◌+◌, ◌<◌, ◌≤◌, ◌^◌, ◌∷◌, IfErr, IfOk, OnOk, length};
 ghost use Rattle.modules.specs.Targets as targets;
 ghost use Rattle.verifier.specs.Flow.{FlowsWell};
 ghost use Rattle.verifier.specs.Depth.{IsGreatestDepth};
 ghost use Rattle.verifier.specs.Operands.{list_of};
 ghost use Rattle.verifier.specs.Boundaries.{IsBoundary, KeepsBoundaries};
-ghost use Rattle.verifier.specs.Search.{Flowed, HasEffect, HaveLongest, HasInstruction, IsApplied, IsAtEdge, IsSearchableBody, IsListed, IsSearchingNext, IsSearching, IsOperandFlowRefusal, IsWaiting, KeepsSearching, StandsAt, count, left, table, waiting};
+ghost use Rattle.verifier.specs.Positions.{positioned};
+ghost use Rattle.verifier.specs.Work.{listed_at};
+ghost use Rattle.verifier.specs.Search.{jump_of, Flowed, HasEffect, HaveLongest, HasInstruction, IsApplied, IsAtEdge, IsSearchableBody, IsListed, IsSearchingNext, IsSearching, IsOperandFlowRefusal, IsWaiting, IsRaising, HasRaised, StandsAt, count, left, table, waiting};
 
 use crate::body::IndexedProcedure;
 use crate::coverage::Coverage;
-use crate::effects::{exchange, is_own};
+use crate::effects::exchange;
 use crate::fault::CodeRefusalKind;
 use crate::numbers::Numbers;
 use crate::operands::Operands;
-use crate::work::Work;
+use crate::work::{ListedOffset, Work};
 use common::{BaseType, OrNoMemory};
 use modules::Instruction;
 use std::alloc::{AllocError, Global};
@@ -55,12 +57,15 @@ fn number_at(body: &IndexedProcedure, to: u32) -> usize
     }
 }
 
-/// An offset that has a list: the numbers of the instruction that begins there and of the list.
-#[derive(Clone, Copy)]
-pub(crate) struct ListedOffset {
-    at: u32,
-    number: u32,
-    list: u32,
+// The number of the instruction that is the target of one, in code with positions as targets.
+fn target_in(placed: &[Instruction], number: u32) -> usize
+    requires { is_some (jump_of (slice_get placed.now number)) ≡ true }
+    ensures { jump_of (slice_get placed.now number) ≡ Some result }
+{
+    match placed[number as usize].target() {
+        Some(position) => position as usize,
+        None => unreachable!(),
+    }
 }
 
 /// The lists of the offsets that control reaches, and the offsets that are still to be looked at.
@@ -105,7 +110,8 @@ impl ReachedOffsets {
         requires place { StandsAt body.now.procedure.now number to }
         requires room { length self.old.operands + left self.old ≤ 2 ^ 32 }
         ensures first { IfOk result (λ first. first ≡ true → Flowed body.now.program.now
-            body.now.procedure.now self.old (waiting self.new to) at to list) }
+            body.now.procedure.now self.old (waiting self.new (listed_at to number list)) at to
+            list) }
         ensures other { IfOk result (λ first. first ≡ false → Flowed body.now.program.now
             body.now.procedure.now self.old self.new at to list) }
         ensures rejected { IfErr result (IfRefused
@@ -134,6 +140,7 @@ impl ReachedOffsets {
         body: &IndexedProcedure,
         at: u32,
         to: u32,
+        number: usize,
         list: u32,
     ) -> Result<(), FlowFault>
         requires searching { IsSearching body.now.program.now body.now.procedure.now self.old
@@ -141,7 +148,7 @@ impl ReachedOffsets {
         requires edge { IsAtEdge body.now.program.now body.now.procedure.now self.old at to
             (list_of self.old.operands list) }
         requires list { list < length self.old.operands }
-        requires boundary { IsBoundary body.now.procedure.now to }
+        requires place { StandsAt body.now.procedure.now number to }
         requires body { IsSearchableBody body.now }
         requires room { length self.old.operands + left self.old ≤ 2 ^ 32 }
         ensures accepted { OnOk result (Flowed body.now.program.now body.now.procedure.now self.old
@@ -149,94 +156,54 @@ impl ReachedOffsets {
         ensures rejected { IfErr result (IfRefused
             (IsOperandFlowRefusal body.now.program.now body.now.procedure.now)) }
     {
-        if !self.arrive(body, at, to, number_at(body, to), list)? {
-            return Ok(());
+        if self.arrive(body, at, to, number, list)? {
+            self.work.push(ListedOffset {
+                at: to,
+                number: number as u32,
+                list,
+            })?;
         }
-        self.work.push(to)?;
         Ok(())
     }
 
-    // Control goes from an offset to a handler, with no operands. It is not inlined, so that the loop over instructions has all
-    // registers for itself.
-    #[inline(never)]
-    fn enter(&mut self, body: &IndexedProcedure, at: u32, to: u32) -> Result<(), FlowFault>
-        requires searching { IsSearching body.now.program.now body.now.procedure.now self.old
-            (at ∷ []) }
-        requires edge { IsAtEdge body.now.program.now body.now.procedure.now self.old at to
-            (list_of self.old.operands 0) }
-        requires boundary { IsBoundary body.now.procedure.now to }
-        requires body { IsSearchableBody body.now }
-        requires room { length self.old.operands + left self.old ≤ 2 ^ 32 }
-        ensures accepted { OnOk result (Flowed body.now.program.now body.now.procedure.now self.old
-            self.new at to 0) }
-        ensures rejected { IfErr result (IfRefused
-            (IsOperandFlowRefusal body.now.program.now body.now.procedure.now)) }
-    {
-        self.reach(body, at, to, 0)
-    }
-
-    // The list that an instruction at an offset leaves.
+    // The list that an instruction at an offset leaves, once control went with it where the instruction jumps. What pushes does not
+    // jump.
     fn apply(
         &mut self,
         body: &IndexedProcedure,
-        at: u32,
+        placed: &[Instruction],
+        listed: ListedOffset,
         instruction: Instruction,
-        list: u32,
     ) -> Result<u32, FlowFault>
         requires searching { IsSearching body.now.program.now body.now.procedure.now self.old
-            (at ∷ []) }
-        requires shape { table body.now.procedure.now self.old at ≡ Some (list_of self.old.operands
-            list) }
-        requires list { list < length self.old.operands }
-        requires instruction { instruction_at body.now.procedure.now.code at ≡ Some instruction }
-        requires room { length self.old.operands < 2 ^ 32 }
-        ensures accepted { OnOk result (IsApplied body.now.program.now body.now.procedure.now
-            self.old self.new at) }
-        ensures there { IfOk result (λ r. r < length self.new.operands) }
-        ensures effect { IfOk result (λ r. HasEffect body.now.program.now body.now.procedure.now
-            self.new at instruction (list_of self.new.operands r)) }
-        ensures rejected { IfErr result (IfRefused
-            (IsOperandFlowRefusal body.now.program.now body.now.procedure.now)) }
-    {
-        if is_own(body, instruction) {
-            match exchange(&self.operands, body, instruction, list) {
-                Err(kind) => Err(refuse(kind, at)),
-                Ok((rest, pushes)) => match pushes {
-                    None => Ok(rest),
-                    Some(kind) => Ok(self.operands.push(rest, kind)?),
-                },
-            }
-        } else {
-            Err(refuse(CodeRefusalKind::OperandKind, at))
-        }
-    }
-
-    // Control jumps, where it may.
-    fn jump(
-        &mut self,
-        body: &IndexedProcedure,
-        at: u32,
-        instruction: Instruction,
-        list: u32,
-    ) -> Result<(), FlowFault>
-        requires searching { IsSearching body.now.program.now body.now.procedure.now self.old
-            (at ∷ []) }
-        requires effect { HasEffect body.now.program.now body.now.procedure.now self.old at
-            instruction (list_of self.old.operands list) }
-        requires list { list < length self.old.operands }
+            (listed.at ∷ []) }
+        requires listed { IsListed body.now.procedure.now self.old listed }
+        requires instruction { instruction_at body.now.procedure.now.code listed.at
+            ≡ Some instruction }
+        requires placed { placed.now ≡ positioned body.now.procedure.now.code }
         requires boundaries { KeepsBoundaries body.now.procedure.now }
         requires body { IsSearchableBody body.now }
-        requires room { length self.old.operands + left self.old ≤ 2 ^ 32 }
-        ensures accepted { OnOk result (KeepsSearching body.now.program.now body.now.procedure.now
-            self.old self.new at) }
-        ensures there { OnOk result ((to : ℕ) → targets.target_of instruction ≡ Some to →
-            table body.now.procedure.now self.new to ≡ Some (list_of self.old.operands list)) }
+        requires room { length self.old.operands + left self.old < 2 ^ 32 }
+        ensures accepted { OnOk result (IsApplied body.now.program.now body.now.procedure.now
+            self.old self.new listed.at) }
+        ensures there { IfOk result (λ r. r < length self.new.operands) }
+        ensures effect { IfOk result (λ r. HasEffect body.now.program.now body.now.procedure.now
+            self.new listed.at instruction (list_of self.new.operands r)) }
+        ensures jumps { IfOk result (λ r. (to : ℕ) → targets.target_of instruction ≡ Some to →
+            table body.now.procedure.now self.new to ≡ Some (list_of self.new.operands r)) }
         ensures rejected { IfErr result (IfRefused
             (IsOperandFlowRefusal body.now.program.now body.now.procedure.now)) }
     {
-        match instruction.target() {
-            Some(to) => self.reach(body, at, to, list),
-            None => Ok(()),
+        match exchange(&self.operands, body, instruction, listed.list) {
+            Err(kind) => Err(refuse(kind, listed.at)),
+            Ok((rest, Some(kind))) => Ok(self.operands.push(rest, kind)?),
+            Ok((rest, None)) => {
+                if let Some(to) = instruction.target() {
+                    let number = target_in(placed, listed.number);
+                    self.reach(body, listed.at, to, number, rest)?;
+                }
+                Ok(rest)
+            }
         }
     }
 
@@ -247,26 +214,50 @@ impl ReachedOffsets {
         coverage: &mut Coverage,
         at: u32,
     ) -> Result<(), FlowFault>
-        requires searching { IsSearching body.now.program.now body.now.procedure.now self.old
-            (at ∷ []) }
-        requires there { HasInstruction body.now.procedure.now self.old at }
-        requires boundaries { KeepsBoundaries body.now.procedure.now }
-        requires waiting { IsWaiting body.now.procedure.now coverage.old self.old }
-        requires body { IsSearchableBody body.now }
-        requires room { length self.old.operands + left self.old ≤ 2 ^ 32 }
-        ensures accepted { OnOk result (KeepsSearching body.now.program.now body.now.procedure.now
-            self.old self.new at) }
-        ensures waiting { OnOk result (IsWaiting body.now.procedure.now coverage.new self.new) }
-        ensures there { OnOk result ((h : Handler) → Contains body.now.procedure.now.handlers h →
-            h.start ≤ at → at < h.end → table body.now.procedure.now self.new h.target ≡ Some []) }
+        requires { IsRaising body.now coverage.old self.old at }
+        ensures accepted { OnOk result (HasRaised body.now coverage.new self.old self.new at) }
         ensures rejected { IfErr result (IfRefused
             (IsOperandFlowRefusal body.now.program.now body.now.procedure.now)) }
     {
-        if !coverage.may_cover(at) {
-            return Ok(());
+        if coverage.may_cover(at) {
+            self.catch(body, coverage, at)
+        } else {
+            Ok(())
         }
+    }
+
+    // The same where a handler may be there. It is inlined, so that nothing is answered through memory where none is.
+    #[inline(always)]
+    fn catch(
+        &mut self,
+        body: &IndexedProcedure,
+        coverage: &mut Coverage,
+        at: u32,
+    ) -> Result<(), FlowFault>
+        requires { IsRaising body.now coverage.old self.old at }
+        ensures accepted { OnOk result (HasRaised body.now coverage.new self.old self.new at) }
+        ensures rejected { IfErr result (IfRefused
+            (IsOperandFlowRefusal body.now.program.now body.now.procedure.now)) }
+    {
+        self.enter_all(body, coverage, at)?;
+        Ok(())
+    }
+
+    // The same. It is not inlined, so that the loop over instructions has all registers for itself.
+    #[inline(never)]
+    fn enter_all(
+        &mut self,
+        body: &IndexedProcedure,
+        coverage: &mut Coverage,
+        at: u32,
+    ) -> Result<(), FlowFault>
+        requires { IsRaising body.now coverage.old self.old at }
+        ensures accepted { OnOk result (HasRaised body.now coverage.new self.old self.new at) }
+        ensures rejected { IfErr result (IfRefused
+            (IsOperandFlowRefusal body.now.program.now body.now.procedure.now)) }
+    {
         while let Some(handler) = coverage.take(at) {
-            self.enter(body, at, handler.target)?;
+            self.reach(body, at, handler.target, number_at(body, handler.target), 0)?;
         }
         Ok(())
     }
@@ -325,10 +316,12 @@ impl ReachedOffsets {
     fn visit(
         &mut self,
         body: &IndexedProcedure,
+        placed: &[Instruction],
         coverage: &mut Coverage,
         listed: ListedOffset,
         instruction: Instruction,
     ) -> Result<Option<ListedOffset>, FlowFault>
+        requires placed { placed.now ≡ positioned body.now.procedure.now.code }
         requires searching { IsSearching body.now.program.now body.now.procedure.now self.old
             (listed.at ∷ []) }
         requires listed { IsListed body.now.procedure.now self.old listed }
@@ -346,9 +339,12 @@ impl ReachedOffsets {
         ensures rejected { IfErr result (IfRefused
             (IsOperandFlowRefusal body.now.program.now body.now.procedure.now)) }
     {
-        let ListedOffset { at, number, list } = listed;
-        let after = self.apply(body, at, instruction, list)?;
-        self.jump(body, at, instruction, after)?;
+        let ListedOffset {
+            at,
+            number,
+            list: _,
+        } = listed;
+        let after = self.apply(body, placed, listed, instruction)?;
         self.raise(body, coverage, at)?;
         let next = self.go_on(body, at, number, instruction, after)?;
         Ok(next)
@@ -358,10 +354,12 @@ impl ReachedOffsets {
     fn look(
         &mut self,
         body: &IndexedProcedure,
+        placed: &[Instruction],
         code: &[Instruction],
         coverage: &mut Coverage,
         listed: ListedOffset,
     ) -> Result<Option<ListedOffset>, FlowFault>
+        requires placed { placed.now ≡ positioned body.now.procedure.now.code }
         requires code { code.now ≡ body.now.procedure.now.code }
         requires searching { IsSearching body.now.program.now body.now.procedure.now self.old
             (listed.at ∷ []) }
@@ -380,25 +378,7 @@ impl ReachedOffsets {
             (IsOperandFlowRefusal body.now.program.now body.now.procedure.now)) }
     {
         let instruction = code[listed.number as usize];
-        self.visit(body, coverage, listed, instruction)
-    }
-
-    // An offset that has a list, with its instruction's number and its list.
-    fn listed_at(&self, body: &IndexedProcedure, at: u32) -> ListedOffset
-        requires searching { IsSearching body.now.program.now body.now.procedure.now self.now
-            (at ∷ []) }
-        requires there { HasInstruction body.now.procedure.now self.now at }
-        requires body { IsSearchableBody body.now }
-        ensures at { result.at ≡ at }
-        ensures listed { IsListed body.now.procedure.now self.now result }
-    {
-        let Some(number) = body.index.number(at as usize) else {
-            unreachable!()
-        };
-        let Some(list) = self.shapes.at(number as usize) else {
-            unreachable!()
-        };
-        ListedOffset { at, number, list }
+        self.visit(body, placed, coverage, listed, instruction)
     }
 
     // Looks at an offset that has a list, and at those to which control goes straight on from there. It is not inlined, so that the
@@ -407,12 +387,15 @@ impl ReachedOffsets {
     fn follow(
         &mut self,
         body: &IndexedProcedure,
+        placed: &[Instruction],
         coverage: &mut Coverage,
-        at: u32,
+        listed: &ListedOffset,
     ) -> Result<(), FlowFault>
+        requires placed { placed.now ≡ positioned body.now.procedure.now.code }
         requires searching { IsSearching body.now.program.now body.now.procedure.now self.old
-            (at ∷ []) }
-        requires there { HasInstruction body.now.procedure.now self.old at }
+            (listed.now.at ∷ []) }
+        requires there { HasInstruction body.now.procedure.now self.old listed.now.at }
+        requires listed { IsListed body.now.procedure.now self.old listed.now }
         requires room { length self.old.operands + left self.old < 2 ^ 32 }
         requires boundaries { KeepsBoundaries body.now.procedure.now }
         requires waiting { IsWaiting body.now.procedure.now coverage.old self.old }
@@ -427,15 +410,26 @@ impl ReachedOffsets {
             (IsOperandFlowRefusal body.now.program.now body.now.procedure.now)) }
     {
         let code = body.procedure.code();
-        let mut next = Some(self.listed_at(body, at));
+        // Field by field, so that each has a register of its own.
+        let mut next = Some(ListedOffset {
+            at: listed.at,
+            number: listed.number,
+            list: listed.list,
+        });
         while let Some(listed) = next {
-            next = self.look(body, code, coverage, listed)?;
+            next = self.look(body, placed, code, coverage, listed)?;
         }
         Ok(())
     }
 
     // Looks at each offset that waits, until none does.
-    fn run(&mut self, body: &IndexedProcedure, coverage: &mut Coverage) -> Result<(), FlowFault>
+    fn run(
+        &mut self,
+        body: &IndexedProcedure,
+        placed: &[Instruction],
+        coverage: &mut Coverage,
+    ) -> Result<(), FlowFault>
+        requires placed { placed.now ≡ positioned body.now.procedure.now.code }
         requires searching { IsSearching body.now.program.now body.now.procedure.now self.old [] }
         requires boundaries { KeepsBoundaries body.now.procedure.now }
         requires waiting { IsWaiting body.now.procedure.now coverage.old self.old }
@@ -447,8 +441,8 @@ impl ReachedOffsets {
         ensures rejected { IfErr result (IfRefused
             (IsOperandFlowRefusal body.now.program.now body.now.procedure.now)) }
     {
-        while let Some(at) = self.work.pop() {
-            self.follow(body, coverage, at)?;
+        while let Some(listed) = self.work.pop() {
+            self.follow(body, placed, coverage, &listed)?;
         }
         Ok(())
     }
@@ -472,7 +466,12 @@ impl FlowSearch {
 
     /// Looks for a refusal of the flow of a procedure whose targets are right, and answers the greatest number of operands where
     /// there is none.
-    pub(crate) fn find_refusal(&mut self, body: &IndexedProcedure) -> Result<u32, FlowFault>
+    pub(crate) fn find_refusal(
+        &mut self,
+        body: &IndexedProcedure,
+        placed: &[Instruction],
+    ) -> Result<u32, FlowFault>
+        requires placed { placed.now ≡ positioned body.now.procedure.now.code }
         requires boundaries { KeepsBoundaries body.now.procedure.now }
         requires body { IsSearchableBody body.now }
         requires few { length body.now.procedure.now.handlers < 2 ^ 32 }
@@ -491,7 +490,7 @@ impl FlowSearch {
         self.reached.shapes.restart(count)?;
         self.reached.shapes.set(0, 0);
         self.reached.work.restart()?;
-        self.reached.run(body, &mut self.coverage)?;
+        self.reached.run(body, placed, &mut self.coverage)?;
         Ok(self.reached.operands.greatest_depth())
     }
 }

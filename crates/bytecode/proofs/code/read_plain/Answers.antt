@@ -1,11 +1,11 @@
 use Rattle.std.proofs.Common.{sym, ap, ◌∙◌}
 use Rattle.modules.specs.Opcodes.{exists_in}
 use Rattle.modules.specs.declared.version.Version.{Version}
-use Rattle.bytecode.proofs.Widths.{plain_first}
+use Rattle.bytecode.proofs.Widths.{plain_is_first}
 use Rattle.bytecode.proofs.code.read_plain.Goals as goal
 
 pub returns-then-has-clause-gives : goal.returns-then-has-clause-gives
 returns-then-has-clause-gives c =
     let version = c.args.version in
-    λ room some. plain_first version room c.args.bytes.now c.in_ok-instruction.instruction c.in-len1-up.len_at_least (sym c.instruction_of.ensures ∙ c.in_ok-instruction.was)
-    (ap (λ (since : Version). exists_in since version) (sym c.entry_of.ensures.since) ∙ sym c.has.ensures ∙ c.if-has.true) some
+    plain_is_first version c.args.bytes.now c.in_ok-instruction.instruction c.requires (sym c.instruction_of.ensures ∙ c.in_ok-instruction.was)
+    (ap (λ (since : Version). exists_in since version) (sym c.entry_of.ensures.since) ∙ sym c.has.ensures ∙ c.if-has.true)

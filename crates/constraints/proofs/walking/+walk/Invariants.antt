@@ -33,9 +33,9 @@ decreases-walk_handlers l = 5 * handlers_nodes (handlers_of l.handlers.now) + 5
 
 abbrev pub invariant-walk_statements-loop-statement : goal.invariant-walk_statements-loop-statement
 invariant-walk_statements-loop-statement l = record {
-  along : Along l.walk.table.now.core.now l.walk.table.now.core.now.labels (entries_of l.walk.map.now) l.walk.procedure l.fn.context.pc l.context.exit_unknowns
+  along : Along l.walk.table.now.core.now l.walk.table.now.core.now.labels (entries_of l.walk.map.now) l.walk.procedure l.fn.context.pc l.context.exit_unknowns.now
       (block_of l.block) l.fn.progress (block_of (drop l.statement-index l.block)) l.reached l.onward l.progress;
-  ready : AreStatementsReady l.walk.table.now.core.now (entries_of l.walk.map.now) l.walk.procedure l.context.exit_unknowns
+  ready : AreStatementsReady l.walk.table.now.core.now (entries_of l.walk.map.now) l.walk.procedure l.context.exit_unknowns.now
       (block_of (drop l.statement-index l.block)) l.progress;
 }
 

@@ -1,11 +1,9 @@
-use Rattle.std.proofs.Common.{◌∙◌}
-use Rattle.layout.specs.Offsets.{offset}
-use Rattle.modules.specs.Targets.{renamed_instruction}
-use Rattle.layout.proofs.Tables.{instruction-by_table, made_more}
+use Rattle.std.proofs.Common.{◌<◌, length, arith}
+use Rattle.layout.proofs.Tables.{written_more}
 use Rattle.layout.proofs.code.lay_out_code.Goals as goal
 
 pub loop-instruction-preserved : goal.loop-instruction-preserved
 loop-instruction-preserved c =
-    made_more (renamed_instruction (offset c.args.code.now)) c.args.code.now c.loop-instruction.made.items c.push.new.self.items c.loop-instruction.instruction-index _ _
-    c.loop-instruction-test.true c.in_ok-push.ensures.items c.loop-instruction.invariant
-    (c.lay_out_instruction.ensures ∙ instruction-by_table c.args.code.now c.args.table.now _ c.requires.table (c.requires.targets c.loop-instruction.instruction-index _ c.loop-instruction-test.true))
+    let below : c.loop-instruction.instruction-index < length c.args.code.now = omega (arith, c.loop-instruction-test.true, c.deref_mut-instruction-items.ensures.len, c.in_ok-made.ensures.len) in
+    written_more c.args.code.now c.loop-instruction.instruction-items c.args.table.now c.loop-instruction.instruction-index _ c.lay_out_instruction.new.instruction
+    c.requires.table c.requires.targets below c.loop-instruction.invariant c.lay_out_instruction.ensures

@@ -1,6 +1,6 @@
 use Rattle.std.specs.Prelude.{flat_map}
 use Rattle.common.specs.Answers.{IfRefused}
-use Rattle.std.proofs.Common.{◌≡◌, refl, sym, ap, ◌∙◌, subst, ◌+◌, arith, List, [], true, map, drop, rules, ◌++◌}
+use Rattle.std.proofs.Common.{◌≡◌, refl, sym, ap, ◌∙◌, subst, ◌+◌, arith, List, [], true, false, map, drop, rules, ◌++◌}
 use Rattle.std.proofs.lemmas.Bool.{not-false}
 use Rattle.std.proofs.lemmas.List.{drop_all}
 use Rattle.std.proofs.lemmas.Result.{IfOk-weaker, IfErr-weaker, on_ok_weaker}
@@ -17,8 +17,8 @@ use Rattle.path_map.specs.Exceptions.{raised_list}
 use Rattle.path_map.specs.Joins.{raises_some}
 use Rattle.path_map.specs.Sets.{members}
 use Rattle.path_map.specs.Walks.{IsFound, AreThrown}
-use Rattle.path_map.proofs.Walking.{along-begin, handling-begin, has-room, reserved, inside, along-step, along-end, never-raised, in-handler, handling-step, first-left, first-right, none-both, Along, Handling}
-use Rattle.path_map.proofs.Forms.{found-at, faults-at, first-at, return-found, store-same, if-found, while-found, try-is-found, tried-throws}
+use Rattle.path_map.proofs.Walking.{along-begin, handling-begin, has-room, reserved, inside, along-step, along-end, never-raised, in-handler, handling-step, first-left, first-right, none-both, Along, Handling, sum-none}
+use Rattle.path_map.proofs.Forms.{found-at, faults-at, first-at, return-found, if-found, while-found, try-is-found, tried-throws}
 use Rattle.resolved.specs.WellFormed.{statement_nodes}
 use Rattle.resolved.proofs.Measured.{handler-within, statement-within}
 use Rattle.path_map.proofs.Fitting.{body-fits, handler-fits, handlers-fit, nested-fits, no-fits, statement-fits, tried-fits, yes-fits}
@@ -71,10 +71,43 @@ walk_block-loop-statement-preserved t c =
     record {
       along =
           subst (λ exits. Along program c.args.in_loop block tail c.reserve.new.self c.put.new.self (members c.new-own.result) (members c.unite.new.self) exits)
-          (sym c.then-exits.ensures)
+          (sym c.then-exits-in-loop-statement.ensures)
           (along-step program c.args.in_loop block c.reserve.new.self (members c.new-own.result) statement tail c.loop-statement.table (members c.loop-statement.own) c.loop-statement.exits along
           (sym c.may_stand.ensures ∙ c.if-not-may_stand.false) (not-false c.loop-statement.exits.normal c.if-not-exits.false) c.put.new.self (members c.unite.new.self) c.in_ok-found.found found c.in_ok-found.ensures.accepted);
       bound = c.unite.ensures.bound ∙ c.loop-statement.invariant.bound;
+    }
+
+-- a statement that raises nothing and has no block in it
+pub walk_block-put_plain-requires : goal.walk_block-put_plain-requires
+walk_block-put_plain-requires t c =
+    let program = program_of c.args.walk.now.core.now in
+    let statement = statement_of c.statement-item.result in
+    has-room (statement_exits program statement) (inner_paths program statement) c.loop-statement.table c.reserve-in-loop-statement.new.self c.reserve-in-loop-statement.new.self c.in_ok-place.place
+    (λ e. false) (λ e. false) c.in-Some.found c.in_ok-place.ensures.room c.in_ok-place.ensures.number
+    (c.in-Some.ensures.found c.args.walk.now.core.now c.reserve-in-loop-statement.new.self (λ e. false))
+
+pub walk_block-loop-statement-preserved-in-Some : goal.walk_block-loop-statement-preserved-in-Some
+walk_block-loop-statement-preserved-in-Some t c =
+    let program = program_of c.args.walk.now.core.now in
+    let block = block_of c.args.block.now in
+    let statement = statement_of c.statement-item.result in
+    let tail = block_of (drop (c.loop-statement.statement-index + 1) c.args.block.now) in
+    let along : Along program c.args.in_loop block (T.Then statement tail) c.reserve.new.self c.loop-statement.table (members c.new-own.result) (members c.loop-statement.own) c.loop-statement.exits =
+    subst (λ rest. Along program c.args.in_loop block rest c.reserve.new.self c.loop-statement.table (members c.new-own.result) (members c.loop-statement.own) c.loop-statement.exits)
+    (next-statement c.args.block.now c.loop-statement.statement-index c.statement-item.result c.loop-statement-test.true c.statement-item.is) c.loop-statement.invariant.along in
+    let found : IsFound (statement_exits program statement) (statement_paths program statement) c.loop-statement.table c.put_plain.new.self (members c.loop-statement.own) (members c.loop-statement.own) c.in-Some.found =
+    reserved (statement_exits program statement) (inner_paths program statement) c.loop-statement.table c.reserve-in-loop-statement.new.self c.reserve-in-loop-statement.new.self c.in_ok-place.place
+    (λ e. false) (λ e. false) c.in-Some.found c.in_ok-place.ensures.room c.in_ok-place.ensures.number
+    (c.in-Some.ensures.found c.args.walk.now.core.now c.reserve-in-loop-statement.new.self (λ e. false))
+    c.put_plain.new.self (members c.loop-statement.own) (members c.loop-statement.own) (λ e. refl) (sum-none (members c.loop-statement.own)) c.put_plain.ensures in
+    record {
+      along =
+          subst (λ exits. Along program c.args.in_loop block tail c.reserve.new.self c.put_plain.new.self (members c.new-own.result) (members c.loop-statement.own) exits)
+          (sym c.then-exits.ensures)
+          (along-step program c.args.in_loop block c.reserve.new.self (members c.new-own.result) statement tail c.loop-statement.table (members c.loop-statement.own) c.loop-statement.exits along
+          (sym c.may_stand.ensures ∙ c.if-not-may_stand.false) (not-false c.loop-statement.exits.normal c.if-not-exits.false) c.put_plain.new.self (members c.loop-statement.own) c.in-Some.found found
+          (c.in-Some.ensures.accepted c.args.walk.now.core.now c.args.in_loop));
+      bound = c.loop-statement.invariant.bound;
     }
 
 pub walk_block-put-requires-2 : goal.walk_block-put-requires-2
@@ -122,12 +155,7 @@ walk_form-returns-in_ok-go_on-in-Store-clause-found t c =
     let value = expression_of c.in-Store.value in
     found-at (program_of c.args.walk.now.core.now) c.args.statement.now (T.Store c.in-Store.field-0 c.in-Store.field-1 c.in-Store.length index value) (ap statement_of c.in-Store.is)
     c.args.table.now c.args.table.now (members c.args.raised.now) (members c.go_on-in-Store.new.raised) c.in_ok-go_on-in-Store.field-0
-    (c.in_ok-go_on-in-Store.ensures.found (raises index ++ raises value ++ index_raises index c.in-Store.length)
-    (store-same index value c.in-Store.length c.index_can_raise.result
-    (raised_list c.raises_of-in-Store.result.arith c.raises_of-in-Store.result.bounds) (raised_list c.raises_of-in-Store-2.result.arith c.raises_of-in-Store-2.result.bounds)
-    (raised_list c.or.result.arith c.or.result.bounds) (raised_list c.or-in-Store.result.arith c.or-in-Store.result.bounds)
-    c.index_can_raise.ensures c.raises_of-in-Store.ensures c.raises_of-in-Store-2.ensures c.or.ensures c.or-in-Store.ensures)
-    c.args.table.now)
+    (c.in_ok-go_on-in-Store.ensures.found (raises index ++ raises value ++ index_raises index c.in-Store.length) c.raises_of_store.ensures c.args.table.now)
 
 pub walk_form-returns-in_ok-receive-in-Receive-clause-found : goal.walk_form-returns-in_ok-receive-in-Receive-clause-found
 walk_form-returns-in_ok-receive-in-Receive-clause-found t c =

@@ -14,7 +14,7 @@ ordered-init g c =
     let waits = c.in_ok-vec.field-0.items in
     let is = c.in_ok-vec.ensures.items_if_clones_equal (λ y e. e) in
     record {
-      seeded = rw (c.in_ok-with_capacity.ensures.items)
+      seeded = rw (c.in_ok-with_capacity.ensures)
           (seeded-none c.args.constraints.now waits (ap length is ∙ length-replicate _ false)
           (λ i. ap (λ (r : List Bool). has r i) is ∙ has-none _ i) (ap size is ∙ size-none _));
     }

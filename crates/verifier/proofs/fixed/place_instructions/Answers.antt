@@ -7,14 +7,13 @@ use Rattle.verifier.specs.Fixed.{instruction_refusals}
 use Rattle.verifier.proofs.FixedRefusals.{instructions_on}
 use Rattle.verifier.proofs.Positioned.{all_renamed, one_more}
 use Rattle.modules.proofs.Widths.{code_length_more}
-use Rattle.verifier.proofs.Offsets.{code_length_within}
 use Rattle.verifier.proofs.fixed.place_instructions.Goals as goal
 
-pub overflow_cast-offset : goal.overflow_cast-offset
-overflow_cast-offset c = omega (arith, code_length_within c.code-code.result.now c.loop-number.number (Push (pos 0)) c.loop-number-test.true, c.code_length-offset.ensures, ap code_length c.code-code.ensures, c.requires.short)
-
 pub put-requires : goal.put-requires
-put-requires c = omega (arith, c.loop-number.invariant.count, c.loop-number-test.true)
+put-requires c = omega (arith, c.loop-number.invariant.many, c.push_reserved.ensures.len)
+
+pub refuse-requires-clause-short : goal.refuse-requires-clause-short
+refuse-requires-clause-short c = omega (arith, ap code_length c.code-code.ensures, c.requires.short)
 
 pub loop-number-preserved : goal.loop-number-preserved
 loop-number-preserved c =
@@ -28,8 +27,9 @@ loop-number-preserved c =
           ap (λ w. instruction_refusals m c.args.procedure p w (drop (n + 1) code)) (code_length_more code n (Push (pos 0)) c.loop-number-test.true)
           ∙ sym (instructions_on m c.args.procedure p (code_length (take n code)) code n (Push (pos 0)) c.loop-number-test.true c.in-Ok.ensures.right)
           ∙ v.left;
-      so_far = one_more (renamed_instruction (position_of p.code)) code c.loop-number.placed.items _ n (Push (pos 0)) c.in-Ok.instruction c.loop-number-test.true c.in-Ok.ensures.placed v.so_far c.put.ensures.stays c.put.ensures.changed;
-      count = c.put.ensures.count ∙ v.count;
+      so_far = one_more (renamed_instruction (position_of p.code)) code c.loop-number.placed.items c.push_reserved.new.self.items _ n (Push (pos 0)) c.in-Ok.instruction c.loop-number-test.true c.in-Ok.ensures.placed v.so_far c.push_reserved.ensures.items c.put.ensures.stays c.put.ensures.changed;
+      many = omega (arith, c.put.ensures.len, c.push_reserved.ensures.len, v.many);
+      room = omega (arith, c.put.ensures.capacity, c.push_reserved.ensures.capacity, v.room);
     }
 
 pub returns-clause-placed : goal.returns-clause-placed

@@ -22,9 +22,9 @@ returns-clause-added c =
     let number = c.make-number.result in
     let thrown = c.deref.result.now in
     made-walked c.args.self.now.table.now.core.now c.args.self.now.table.now.core.now.labels (entries_of c.args.self.now.map.now)
-    c.args.context.pc c.args.context.exit_unknowns thrown 1 number (λ t n named. branch_constraints scope named (exit_unknowns_of c.args.context.exit_unknowns t) n e) c.args.progress.now c.make-number.new.self _
+    c.args.context.pc c.args.context.exit_unknowns.now thrown 1 number (λ t n named. branch_constraints scope named (exit_unknowns_of c.args.context.exit_unknowns.now t) n e) c.args.progress.now c.make-number.new.self _
     c.make-number.ensures.made c.make-number.ensures.first c.deref.ensures.value refl refl refl refl
     (λ named stands. added-then core table (inner_constraint (named ∷ named_atoms (value_label scope e)) number)
-    (raised_flows (named ∷ named_atoms (raise_atoms scope e)) (exit_unknowns_of c.args.context.exit_unknowns thrown) (raises e)) _ _ _
-    (c.in_ok-add_branch.ensures named stands) (gathered-around core table (λ t n. raised_flows (n ∷ named_atoms (raise_atoms scope e)) t (raises e)) c.around-around.result c.args.context.pc (exit_unknowns_of c.args.context.exit_unknowns thrown) _ _
+    (raised_flows (named ∷ named_atoms (raise_atoms scope e)) (exit_unknowns_of c.args.context.exit_unknowns.now thrown) (raises e)) _ _ _
+    (c.in_ok-add_branch.ensures named stands) (gathered-around core table (λ t n. raised_flows (n ∷ named_atoms (raise_atoms scope e)) t (raises e)) c.around-around.result c.args.context.pc (exit_unknowns_of c.args.context.exit_unknowns.now thrown) _ _
     c.around-around.ensures.pc c.around-around.ensures.exit_unknowns c.in_ok-add_condition.ensures named stands))

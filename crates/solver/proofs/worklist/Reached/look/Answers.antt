@@ -3,7 +3,7 @@ use Rattle.std.specs.Prelude.{Contains, slice_get}
 use Rattle.std.proofs.lemmas.List.{set-get_or}
 use Rattle.solver.proofs.Bits.{kept-all}
 use Rattle.solver.proofs.Standing.{has_at-row}
-use Rattle.solver.specs.Queue.{Added}
+use Rattle.solver.specs.Queue.{Added, order_in}
 use Rattle.solver.specs.Reach.{edge}
 use Rattle.solver.specs.Rows.{left_has}
 use Rattle.solver.specs.Work.{IsBrought, IsBroughtTo, IsMore, MayBeMore}
@@ -26,30 +26,30 @@ add_all-requires g c = λ i u h.
     let count = c.requires.work.count in
     omega (arith, lt, count)
 
-more : (g : Over) (c : In_ok-add_all g) → IsLooked c.args.constraints.now c.args.edges.now c.args.self.now.rows c.args.queue.now.order.items
-    c.bring.new.rows c.add_all.new.self.waits.items c.add_all.new.self.order.items
+more : (g : Over) (c : In_ok-add_all g) → IsLooked c.args.constraints.now c.args.edges.now c.args.self.now.rows (order_in c.args.queue.now.order)
+    c.bring.new.rows c.add_all.new.self.waits.items (order_in c.add_all.new.self.order)
 more g c =
     let at = (goal.at.returns-in_ok-add_all-clause-work g c).After-bring in
     let brought : IsBroughtTo c.args.self.now.rows c.len-count.result c.in-Unknown.unknown c.as_slice-left.result.now c.bring.new.rows =
     subst (IsBrought c.args.self.now.rows c.len-count.result c.in-Unknown.unknown c.as_slice-left.result.now c.bring.new.rows) c.if-is_more.true c.in_ok-is_more.ensures in
     let is : IsMore c.args.self.now.rows (length c.args.edges.now.written) c.in-Unknown.unknown c.index-constraints-by.result.left.items brought.row =
     rw (← c.len-count.ensures, ← c.as_slice-left.ensures) brought.more in
-    subst (λ (rows : List (List Bool)). IsLooked c.args.constraints.now c.args.edges.now c.args.self.now.rows c.args.queue.now.order.items rows c.add_all.new.self.waits.items c.add_all.new.self.order.items)
+    subst (λ (rows : List (List Bool)). IsLooked c.args.constraints.now c.args.edges.now c.args.self.now.rows (order_in c.args.queue.now.order) rows c.add_all.new.self.waits.items (order_in c.add_all.new.self.order))
     (sym brought.put)
-    (looked-grown c.args.constraints.now c.args.edges.now c.requires.edges c.requires.range c.args.self.now.rows c.args.queue.now.waits.items c.args.queue.now.order.items c.args.by c.requires.work
-    c.index-constraints-by.result (at_is g at) c.in-Unknown.unknown c.in-Unknown.is [] brought.row is.short is.members is.larger c.add_all.new.self.waits.items c.add_all.new.self.order.items
-    (subst (λ (edges : List Edge). Added edges c.args.queue.now.waits.items c.args.queue.now.order.items c.add_all.new.self.waits.items c.add_all.new.self.order.items) c.row.ensures c.in_ok-add_all.ensures))
+    (looked-grown c.args.constraints.now c.args.edges.now c.requires.edges c.requires.range c.args.self.now.rows c.args.queue.now.waits.items (order_in c.args.queue.now.order) c.args.by c.requires.work
+    c.index-constraints-by.result (at_is g at) c.in-Unknown.unknown c.in-Unknown.is [] brought.row is.short is.members is.larger c.add_all.new.self.waits.items (order_in c.add_all.new.self.order)
+    (subst (λ (edges : List Edge). Added edges c.args.queue.now.waits.items (order_in c.args.queue.now.order) c.add_all.new.self.waits.items (order_in c.add_all.new.self.order)) c.row.ensures c.in_ok-add_all.ensures))
 
-kept : (g : Over) (c : Else-is_more g) → IsLooked c.args.constraints.now c.args.edges.now c.args.self.now.rows c.args.queue.now.order.items
-    c.bring.new.rows c.args.queue.now.waits.items c.args.queue.now.order.items
+kept : (g : Over) (c : Else-is_more g) → IsLooked c.args.constraints.now c.args.edges.now c.args.self.now.rows (order_in c.args.queue.now.order)
+    c.bring.new.rows c.args.queue.now.waits.items (order_in c.args.queue.now.order)
 kept g c =
     let at = (goal.at.returns-else-is_more-clause-work g c).After-bring in
     let own = get_or c.args.self.now.rows c.in-Unknown.unknown [] in
     let brought : (c.bring.new.rows ≡ c.args.self.now.rows) × MayBeMore c.args.self.now.rows c.len-count.result c.in-Unknown.unknown c.as_slice-left.result.now None =
     subst (IsBrought c.args.self.now.rows c.len-count.result c.in-Unknown.unknown c.as_slice-left.result.now c.bring.new.rows) c.if-is_more.false c.in_ok-is_more.ensures in
-    subst (λ (rows : List (List Bool)). IsLooked c.args.constraints.now c.args.edges.now c.args.self.now.rows c.args.queue.now.order.items rows c.args.queue.now.waits.items c.args.queue.now.order.items)
+    subst (λ (rows : List (List Bool)). IsLooked c.args.constraints.now c.args.edges.now c.args.self.now.rows (order_in c.args.queue.now.order) rows c.args.queue.now.waits.items (order_in c.args.queue.now.order))
     (set-get_or c.args.self.now.rows c.in-Unknown.unknown [] ∙ sym brought.0)
-    (looked-kept c.args.constraints.now c.args.edges.now c.requires.edges c.requires.range c.args.self.now.rows c.args.queue.now.waits.items c.args.queue.now.order.items c.args.by c.requires.work
+    (looked-kept c.args.constraints.now c.args.edges.now c.requires.edges c.requires.range c.args.self.now.rows c.args.queue.now.waits.items (order_in c.args.queue.now.order) c.args.by c.requires.work
     c.index-constraints-by.result (at_is g at) c.in-Unknown.unknown c.in-Unknown.is [] own
     (let h = inside g at in let all = c.requires.work.all in c.requires.work.sized c.in-Unknown.unknown [] (omega (arith, h, all)))
     (λ n. kept-all own (left_has c.args.self.now.rows c.index-constraints-by.result.left.items) (λ n held. has_at-row c.args.self.now.rows c.in-Unknown.unknown n ∙ brought.1 n (rw c.as_slice-left.ensures held)) n) refl)
@@ -65,7 +65,7 @@ returns-in_ok-add_all-clause-so_far g c =
     let all = more g c in
     let count = c.requires.work.count in
     looked-more c.args.constraints.now c.args.edges.now c.args.self.now.rows c.bring.new.rows c.args.by
-    c.args.queue.now.order.items c.add_all.new.self.order.items c.args.self.now.looks c.saturating_add-self.result c.requires.so_far c.saturating_add-self.ensures
+    (order_in c.args.queue.now.order) (order_in c.add_all.new.self.order) c.args.self.now.looks c.saturating_add-self.result c.requires.so_far c.saturating_add-self.ensures
     (omega (arith, count, c.args.queue.now.waits.small, c.args.queue.now.waits.ok.0, c.args.queue.now.waits.ok.1)) all.longer all.less
 
 pub returns-else-is_more-clause-work : goal.returns-else-is_more-clause-work
@@ -79,5 +79,5 @@ returns-else-is_more-clause-so_far g c =
     let all = kept g c in
     let count = c.requires.work.count in
     looked-more c.args.constraints.now c.args.edges.now c.args.self.now.rows c.bring.new.rows c.args.by
-    c.args.queue.now.order.items c.args.queue.now.order.items c.args.self.now.looks c.saturating_add-self.result c.requires.so_far c.saturating_add-self.ensures
+    (order_in c.args.queue.now.order) (order_in c.args.queue.now.order) c.args.self.now.looks c.saturating_add-self.result c.requires.so_far c.saturating_add-self.ensures
     (omega (arith, count, c.args.queue.now.waits.small, c.args.queue.now.waits.ok.0, c.args.queue.now.waits.ok.1)) all.longer all.less

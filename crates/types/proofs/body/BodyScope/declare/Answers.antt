@@ -11,12 +11,11 @@ use Rattle.types.proofs.body.BodyScope.declare.Goals as goal
 pub returns-clause-made : goal.returns-clause-made
 returns-clause-made c =
     let before = c.args.self.now in
-    let name = c.args.slot.name in
+    let name = c.args.slot.name.now in
     let number = length c.slots.result.now in
     let next : number ≡ length before.variables.slots = next_slot before.variables.labels c.slots.result.now before.variables.slots number c.slots.ensures refl in
     let named : declaring name (meanings.Variable (Local (length before.variables.slots)) c.args.slot.base c.args.slot.size) (names_of before) ≡ (λ other. or_else (found_in c.insert.new.table other) (found_in before.top.now.names other)) =
     ap (λ n. declaring name (meanings.Variable (Local n) c.args.slot.base c.args.slot.size) (names_of before)) (sym next)
-    ∙ ap (λ one. declaring one (meanings.Variable (Local number) c.args.slot.base c.args.slot.size) (names_of before)) c.requires.named
     ∙ inner_named (λ other. found_in before.locals other) (λ other. found_in before.top.now.names other) _ _ _ c.in_ok-insert.ensures in
     let all = sym c.in_ok-declare.ensures.slots in
     λ i. Ok (record { names = named i; slots = all i; loops = before.loops })
@@ -25,7 +24,7 @@ pub returns-clause-later : goal.returns-clause-later
 returns-clause-later c =
     let before = c.args.self.now in
     let declared = before.declared.items in
-    let fresh : found_in before.locals c.args.name.now ≡ None = inner_none _ (found_in before.top.now.names c.args.name.now) c.requires.fresh in
+    let fresh : found_in before.locals c.args.slot.name.now ≡ None = inner_none _ (found_in before.top.now.names c.args.slot.name.now) c.requires.fresh in
     record {
       hierarchy = refl;
       top = refl;

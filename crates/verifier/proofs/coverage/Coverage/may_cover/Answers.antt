@@ -1,5 +1,5 @@
-use Rattle.verifier.proofs.Covering.{all_over}
+use Rattle.std.proofs.Common.{arith}
 use Rattle.verifier.proofs.coverage.Coverage.may_cover.Goals as goal
 
-pub returns : goal.returns
-returns c = λ e. all_over c.args.self.now c.args.at c.requires (c.has_above.ensures e)
+pub returns-then-at-self-2 : goal.returns-then-at-self-2
+returns-then-at-self-2 c = λ e x w low high. c.requires.quiet x c.args.at w (omega (arith, c.if-at-self.false)) (omega (arith, c.if-at-self-2.true)) low high

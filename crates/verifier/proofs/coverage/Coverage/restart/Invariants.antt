@@ -11,4 +11,5 @@ invariant-loop-index l = record {
   room : length l.self.handlers.items ≤ l.self.ends.width;
   done : (k : ℕ) (h : Handler) → k < l.index → k < length l.self.handlers.items → get_or l.self.handlers.items k h ≡ h → leaf l.self.ends k ≡ h.end;
   after : (k : ℕ) → l.index ≤ k → leaf l.self.ends k ≡ 0;
+  loud : l.self.quiet.1 ≡ 0;
 }

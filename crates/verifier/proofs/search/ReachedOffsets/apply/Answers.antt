@@ -1,24 +1,62 @@
-use Rattle.std.proofs.Common.{◌∷◌, [], refl, sym, ap, ◌∙◌}
-use Rattle.verifier.specs.SignatureParts.{pushed}
+use Rattle.std.proofs.Common.{◌≡◌, ◌∷◌, [], Some, is_some, slice_get, refl, sym, ap, subst, ◌∙◌}
+use Rattle.verifier.specs.Flow.{Leaves, effect}
 use Rattle.verifier.specs.Operands.{list_of}
-use Rattle.verifier.proofs.Reaching.{misses_at, misses_own, applied, has_effect, pushed_met}
+use Rattle.verifier.specs.Positions.{position_of}
+use Rattle.verifier.specs.Search.{StandsAt, jump_of}
+use Rattle.verifier.proofs.Indices.{number_is}
+use Rattle.verifier.proofs.Reaching.{applied, edge_jump, effect_of, jump_placed, leaves_more, leaves_rest, misses_by, pushed_by, stands_position}
 use Rattle.verifier.proofs.search.ReachedOffsets.apply.Goals as goal
 
 pub returns-in-Err-clause-rejected : goal.returns-in-Err-clause-rejected
 returns-in-Err-clause-rejected c =
-    rw c.refuse.ensures (misses_at c.args.body.now.program.now c.args.body.now.procedure.now c.args.self.now (c.args.at ∷ []) c.args.at (list_of c.args.self.now.operands c.args.list) c.args.instruction c.in-Err.kind c.requires.searching c.requires.shape c.requires.instruction (sym c.is_own.ensures ∙ c.if-is_own.true) c.in-Err.ensures.rejected)
+    rw c.refuse.ensures (misses_by c.args.body.now.program.now c.args.body.now.procedure.now c.args.self.now (c.args.listed.at ∷ []) c.args.listed.at _ c.args.instruction c.in-Err.kind c.requires.searching c.requires.listed.list c.requires.instruction c.in-Err.ensures.rejected)
 
-pub returns-else-is_own-clause-rejected : goal.returns-else-is_own-clause-rejected
-returns-else-is_own-clause-rejected c =
-    rw c.refuse-else-is_own.ensures (misses_own c.args.body.now.program.now c.args.body.now.procedure.now c.args.self.now (c.args.at ∷ []) c.args.at (list_of c.args.self.now.operands c.args.list) c.args.instruction c.requires.searching c.requires.shape c.requires.instruction (sym c.is_own.ensures ∙ c.if-is_own.false))
+pub target_in-number-requires : goal.target_in-number-requires
+target_in-number-requires c =
+    let code = c.args.body.now.procedure.now.code in
+    let is = number_is code c.args.listed.number c.args.listed.at c.args.instruction c.requires.listed.number c.requires.instruction in
+    ap is_some (ap (λ l. jump_of (slice_get l c.args.listed.number)) c.requires.placed ∙ jump_placed (position_of code) code c.args.listed.number c.args.instruction c.in-Some.to is (sym c.target.ensures ∙ c.in-Some.is))
 
-pub returns-in_ok-push-in-Some-clause-accepted : goal.returns-in_ok-push-in-Some-clause-accepted
-returns-in_ok-push-in-Some-clause-accepted c =
-    applied c.args.body.now.program.now c.args.body.now.procedure.now c.args.self.now _ c.args.at c.requires.searching c.in_ok-push-in-Some.ensures.longer c.in_ok-push-in-Some.ensures.few refl refl (pushed_met c.args.body.now.program.now c.args.body.now.procedure.now c.args.self.now (c.args.at ∷ []) _ c.args.at (list_of c.args.self.now.operands c.args.list) (list_of c.args.self.now.operands c.in-Ok.rest) _ c.args.instruction c.requires.searching c.requires.shape c.requires.instruction (sym c.is_own.ensures ∙ c.if-is_own.true) c.in-Ok.ensures.accepted (ap (λ o. pushed o (list_of c.args.self.now.operands c.in-Ok.rest)) (sym c.in-Ok.ensures.pushes ∙ c.in-Some.is)) c.in_ok-push-in-Some.ensures.alone)
+pub reach-requires-clause-place : goal.reach-requires-clause-place
+reach-requires-clause-place c =
+    let p = c.args.body.now.procedure.now in
+    let is = number_is p.code c.args.listed.number c.args.listed.at c.args.instruction c.requires.listed.number c.requires.instruction in
+    let goes = sym c.target.ensures ∙ c.in-Some.is in
+    let both : Some (position_of p.code c.in-Some.to) ≡ Some c.target_in-number.result =
+    sym (ap (λ l. jump_of (slice_get l c.args.listed.number)) c.requires.placed ∙ jump_placed (position_of p.code) p.code c.args.listed.number c.args.instruction c.in-Some.to is goes) ∙ c.target_in-number.ensures in
+    let same : position_of p.code c.in-Some.to ≡ c.target_in-number.result = cc in
+    subst (λ n. StandsAt p n c.in-Some.to) same (stands_position p c.in-Some.to (c.requires.boundaries.jumps c.args.listed.at c.args.instruction c.in-Some.to c.requires.instruction goes))
 
-pub returns-in_ok-push-in-Some-clause-effect : goal.returns-in_ok-push-in-Some-clause-effect
-returns-in_ok-push-in-Some-clause-effect c =
-    has_effect c.args.body.now.program.now c.args.body.now.procedure.now c.args.self.now _ c.args.at (list_of c.args.self.now.operands c.args.list) (list_of c.args.self.now.operands c.in-Ok.rest) _ c.args.instruction
-    (applied c.args.body.now.program.now c.args.body.now.procedure.now c.args.self.now _ c.args.at c.requires.searching c.in_ok-push-in-Some.ensures.longer c.in_ok-push-in-Some.ensures.few refl refl (pushed_met c.args.body.now.program.now c.args.body.now.procedure.now c.args.self.now (c.args.at ∷ []) _ c.args.at (list_of c.args.self.now.operands c.args.list) (list_of c.args.self.now.operands c.in-Ok.rest) _ c.args.instruction c.requires.searching c.requires.shape c.requires.instruction (sym c.is_own.ensures ∙ c.if-is_own.true) c.in-Ok.ensures.accepted (ap (λ o. pushed o (list_of c.args.self.now.operands c.in-Ok.rest)) (sym c.in-Ok.ensures.pushes ∙ c.in-Some.is)) c.in_ok-push-in-Some.ensures.alone))
-    c.requires.shape c.requires.instruction (sym c.is_own.ensures ∙ c.if-is_own.true) c.in-Ok.ensures.accepted
-    (ap (λ o. pushed o (list_of c.args.self.now.operands c.in-Ok.rest)) (sym c.in-Ok.ensures.pushes ∙ c.in-Some.is) ∙ sym c.in_ok-push-in-Some.ensures.made)
+pub reach-requires-clause-edge : goal.reach-requires-clause-edge
+reach-requires-clause-edge c =
+    let m = c.args.body.now.program.now in
+    let p = c.args.body.now.procedure.now in
+    edge_jump m p c.args.self.now c.args.listed.at c.in-Some.to c.args.instruction _
+    (record {
+      there = c.requires.instruction;
+      kinds = list_of c.args.self.now.operands c.args.listed.list;
+      has = c.requires.listed.list;
+      effect = leaves_rest _ _ _ c.in-Ok-default-None.ensures.accepted c.in-Ok-default-None.field-0-1-is;
+    })
+    (sym c.target.ensures ∙ c.in-Some.is)
+
+pub returns-in_ok-push-in-Ok-default-Some-clause-accepted : goal.returns-in_ok-push-in-Ok-default-Some-clause-accepted
+returns-in_ok-push-in-Ok-default-Some-clause-accepted c =
+    let m = c.args.body.now.program.now in
+    let p = c.args.body.now.procedure.now in
+    let pushed = c.in_ok-push-in-Ok-default-Some.ensures in
+    let more = c.in-Ok-default-Some in
+    applied m p c.args.self.now _ c.args.listed.at c.requires.searching pushed.longer pushed.few refl refl
+    (pushed_by m p c.args.self.now (c.args.listed.at ∷ []) _ c.args.listed.at (list_of c.args.self.now.operands c.args.listed.list) _ c.args.instruction c.requires.searching c.requires.listed.list c.requires.instruction (leaves_more _ _ _ _ more.ensures.accepted more.field-0-1-is) pushed.alone)
+
+pub returns-in_ok-push-in-Ok-default-Some-clause-effect : goal.returns-in_ok-push-in-Ok-default-Some-clause-effect
+returns-in_ok-push-in-Ok-default-Some-clause-effect c =
+    let m = c.args.body.now.program.now in
+    let p = c.args.body.now.procedure.now in
+    let pushed = c.in_ok-push-in-Ok-default-Some.ensures in
+    let more = c.in-Ok-default-Some in
+    let left = leaves_more more.field-0-1 (effect m p c.args.instruction (list_of c.args.self.now.operands c.args.listed.list)) (list_of c.args.self.now.operands more.rest) more.kind more.ensures.accepted more.field-0-1-is in
+    effect_of m p c.args.self.now _ c.args.listed.at (list_of c.args.self.now.operands c.args.listed.list) _ c.args.instruction
+    (applied m p c.args.self.now _ c.args.listed.at c.requires.searching pushed.longer pushed.few refl refl
+    (pushed_by m p c.args.self.now (c.args.listed.at ∷ []) _ c.args.listed.at (list_of c.args.self.now.operands c.args.listed.list) _ c.args.instruction c.requires.searching c.requires.listed.list c.requires.instruction left pushed.alone))
+    c.requires.listed.list c.requires.instruction (left ∙ ap Leaves (sym pushed.made))

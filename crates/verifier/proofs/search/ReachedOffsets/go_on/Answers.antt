@@ -1,10 +1,11 @@
-use Rattle.std.proofs.Common.{◌≡◌, ◌+◌, ◌<◌, Some, length, true, false, refl, ap, sym, subst, arith, ◌∙◌}
+use Rattle.std.proofs.Common.{◌≡◌, ◌+◌, true, false, refl, ap, sym, arith, ◌∙◌}
 use Rattle.modules.specs.Targets.{goes_on}
 use Rattle.verifier.specs.Operands.{list_of}
 use Rattle.verifier.specs.Search.{table, waiting}
+use Rattle.verifier.specs.Work.{listed_at}
 use Rattle.verifier.proofs.Indices.{next_offset, number_inside, number_is}
 use Rattle.verifier.proofs.Offsets.{code_length_least, ends_inside}
-use Rattle.verifier.proofs.Reaching.{edge_next, all_followed, taken, taken_instruction}
+use Rattle.verifier.proofs.Reaching.{edge_next, all_followed, taken, taken_instruction, taken_listed}
 use Rattle.verifier.proofs.search.ReachedOffsets.go_on.Goals as goal
 
 pub overflow_add-to : goal.overflow_add-to
@@ -37,19 +38,14 @@ returns-then-not-goes_on-clause-next c =
 pub returns-then-branch-clause-next : goal.returns-then-branch-clause-next
 returns-then-branch-clause-next c =
     let to = c.args.at + c.width.result in
+    let next = listed_at to (c.args.number + 1) c.args.list in
     let f = c.in_ok-arrive.ensures.first c.if-branch.true in
-    let g = all_followed c.args.body.now.program.now c.args.body.now.procedure.now c.args.self.now (waiting c.arrive.new.self to) c.args.at c.args.instruction (list_of c.args.self.now.operands c.args.list) c.requires.effect c.requires.jumps c.requires.caught f.keeps
-    (λ goes. ap (λ w. table c.args.body.now.procedure.now c.arrive.new.self (c.args.at + w)) (sym c.width.ensures) ∙ f.arrives) f.searching in
-    let code = c.args.body.now.procedure.now.code in
-    let is = number_is code c.args.number c.args.at c.args.instruction c.requires.number c.requires.effect.there in (
-      taken c.args.body.now.program.now c.args.body.now.procedure.now (waiting c.arrive.new.self to) c.arrive.new.self to g refl refl refl,
+    let g = all_followed c.args.body.now.program.now c.args.body.now.procedure.now c.args.self.now (waiting c.arrive.new.self next) c.args.at c.args.instruction (list_of c.args.self.now.operands c.args.list) c.requires.effect c.requires.jumps c.requires.caught f.keeps
+    (λ goes. ap (λ w. table c.args.body.now.procedure.now c.arrive.new.self (c.args.at + w)) (sym c.width.ensures) ∙ f.arrives) f.searching in (
+      taken c.args.body.now.program.now c.args.body.now.procedure.now (waiting c.arrive.new.self next) c.arrive.new.self next g refl refl refl,
       (
-        taken_instruction c.args.body.now.program.now c.args.body.now.procedure.now (waiting c.arrive.new.self to) c.arrive.new.self to g refl refl refl,
-        record {
-          number = next_offset code c.args.number c.args.instruction is ∙ omega (arith, c.requires.number, c.width.ensures);
-          list = f.arrives ∙ ap (λ ls. Some (list_of ls c.args.list)) (sym f.same);
-          inside = subst (λ ls. c.args.list < length ls) (sym f.same) c.requires.list;
-        },
+        taken_instruction c.args.body.now.program.now c.args.body.now.procedure.now (waiting c.arrive.new.self next) c.arrive.new.self next g refl refl refl,
+        taken_listed c.args.body.now.program.now c.args.body.now.procedure.now (waiting c.arrive.new.self next) c.arrive.new.self next g refl refl refl,
       ),
     )
 

@@ -1,6 +1,6 @@
 use Rattle.std.proofs.Common.{◌≡◌, ℕ, ◌<◌, get_or, length}
 use Rattle.layout.specs.Offsets.{offset}
-use Rattle.layout.proofs.code.make_table.Given as goal
+use Rattle.layout.proofs.code.fill_table.Given as goal
 
 -- the offsets of the positions so far, and the next one
 abbrev pub invariant-loop-instruction : goal.invariant-loop-instruction

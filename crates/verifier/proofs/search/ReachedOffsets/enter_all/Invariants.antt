@@ -1,6 +1,6 @@
 use Rattle.verifier.specs.Coverage.{left}
 use Rattle.verifier.specs.Search.{IsWaiting, KeepsSearching}
-use Rattle.verifier.proofs.search.ReachedOffsets.raise.Given as goal
+use Rattle.verifier.proofs.search.ReachedOffsets.enter_all.Given as goal
 
 abbrev pub invariant-loop-handler : goal.invariant-loop-handler
 invariant-loop-handler l = record {

@@ -2,11 +2,11 @@ use Rattle.std.proofs.Common.{◌≡◌, ℕ, ◌+◌, length, sym, ap, ◌∙�
 use Rattle.layout.specs.Offsets.{offset}
 use Rattle.layout.proofs.Offsets.{offset-start}
 use Rattle.layout.proofs.Tables.{next-offset, offset-within, length_more, entries_more}
-use Rattle.layout.proofs.code.make_table.Goals as goal
-use Rattle.layout.proofs.code.make_table.Goals.{After-width}
+use Rattle.layout.proofs.code.fill_table.Goals as goal
+use Rattle.layout.proofs.code.fill_table.Goals.{After-width}
 
 pub loop-instruction-init : goal.loop-instruction-init
-loop-instruction-init c = (sym (offset-start c.args.code.now), ap length c.new-table.ensures.items, λ k h. absurd (omega arith))
+loop-instruction-init c = (sym (offset-start c.args.code.now), ap length (c.reserve.ensures.items ∙ c.clear.ensures.items), λ k h. absurd (omega arith))
 
 next_is : (c : After-width) → c.loop-instruction.next + c.width.result ≡ offset c.args.code.now (c.loop-instruction.instruction-index + 1)
 next_is c =
