@@ -9,7 +9,9 @@ where there is a `javac`). Where there is a `rustc`, it compiles `bench/interpre
 written by hand, and this takes the same module. What is not installed is said and left out.
 
 All ways are run ROUNDS times, in turn, and the least user and system time of the process counts; that of the program `nothing` is
-taken off. All have to give the same number. The table ends with the geometric means of how many times as fast the machine is.
+taken off. All have to give the same last number. Of the programs `relay` alone has an input: READINGS numbers, which the others
+read from standard input, and the interpreter in Rust cannot. The table ends with the geometric means of how many times as fast
+the machine is.
 Where there is a `valgrind`, a second table has the processor instructions for each step of three programs, by callgrind: the
 difference of two numbers of steps, so that the start is left out.
 
@@ -29,14 +31,17 @@ from pathlib import Path
 ROUNDS = 7
 STEPS = 4_000_000_000
 PROGRAMS = Path(__file__).with_name("programs")
+READINGS = 200_000
 COUNTED = ["loop", "matrix", "queens"]
 FEW, MANY = 200_000, 1_200_000
 
 
-def seconds(command):
-    """The user and system time of a command, and the last word but `finished` that it wrote; none where it fails."""
+def seconds(command, world):
+    """The user and system time of a command with a file as its standard input, and the last word that it wrote; none where it
+    fails."""
     begun = resource.getrusage(resource.RUSAGE_CHILDREN)
-    done = subprocess.run(command, capture_output=True)
+    with open(world, "rb") as given:
+        done = subprocess.run(command, stdin=given, capture_output=True)
     ended = resource.getrusage(resource.RUSAGE_CHILDREN)
     took = ended.ru_utime + ended.ru_stime - begun.ru_utime - begun.ru_stime
     return took, done.stdout.split()[-1] if done.returncode == 0 and done.stdout else None
@@ -58,29 +63,37 @@ def build(program, folder, name):
     return module
 
 
+def world_of(folder, name):
+    """The world of a program: numbers without a pattern that a reader sees, where it receives some."""
+    world = folder / f"{name}.world"
+    numbers = " ".join(str(number * 7919 % 10007) for number in range(READINGS))
+    world.write_text(f"readings = {numbers}\n" if name == "relay" else "")
+    return world
+
+
 def others(folder):
-    """What else runs the programs: by its name, what makes the command of a program and its module."""
+    """What else runs the programs: by its name, what makes the command of a program, its module and its world."""
     ways = {}
     if found("lua5.4", "Lua"):
-        ways["Lua 5.4"] = lambda name, module: ["lua5.4", PROGRAMS / f"{name}.lua"]
+        ways["Lua 5.4"] = lambda name, *files: ["lua5.4", PROGRAMS / f"{name}.lua"]
     if found("luajit", "LuaJIT's interpreter"):
-        ways["LuaJIT -joff"] = lambda name, module: ["luajit", "-joff", PROGRAMS / f"{name}.lua"]
+        ways["LuaJIT -joff"] = lambda name, *files: ["luajit", "-joff", PROGRAMS / f"{name}.lua"]
     if found("javac", "Java's interpreter"):
         subprocess.run(["javac", "-d", folder, *PROGRAMS.glob("*.java")], check=True)
-        ways["Java -Xint"] = lambda name, module: ["java", "-Xint", "-Xshare:auto", "-cp", folder, name.capitalize()]
+        ways["Java -Xint"] = lambda name, *files: ["java", "-Xint", "-Xshare:auto", "-cp", folder, name.capitalize()]
     if found("rustc", "the interpreter in Rust"):
         built = folder / "interpreter"
         subprocess.run(["rustc", "-O", Path(__file__).with_name("interpreter.rs"), "-o", built], check=True)
-        ways["Rust"] = lambda name, module: [built, module, str(STEPS)]
+        ways["Rust"] = lambda name, module, world: [built, module, str(STEPS)]
     return ways
 
 
-def least(name, commands):
-    """The least time of each way that runs the program; all have to give the same number."""
+def least(name, commands, world):
+    """The least time of each way that runs the program on a world; all have to give the same number."""
     best, given = dict.fromkeys(commands, math.inf), {}
     for _ in range(ROUNDS):
         for way, command in commands.items():
-            took, number = seconds(command)
+            took, number = seconds(command, world)
             if number is not None:
                 best[way], given[way] = min(best[way], took), number
     if len(set(given.values())) > 1:
@@ -95,19 +108,18 @@ def row(cells):
 def measure(program, names, folder):
     """Prints a row for each program, and the means."""
     ways = others(folder)
-    (folder / "world").write_text("")
     row(["Program", "flowc", *ways, *(f"{way} / flowc" for way in ways)])
     print("|---" * (2 + 2 * len(ways)) + "|")
     start, ratios = {}, {way: [] for way in ways}
     for name in ["nothing", *names]:
-        module = build(program, folder, name)
-        commands = {"flowc": [program, "run", module, folder / "world", "--steps", str(STEPS)]}
-        commands |= {way: make(name, module) for way, make in ways.items()}
-        best = least(name, commands)
+        module, world = build(program, folder, name), world_of(folder, name)
+        commands = {"flowc": [program, "run", module, world, "--steps", str(STEPS)]}
+        commands |= {way: make(name, module, world) for way, make in ways.items() if way != "Rust" or name != "relay"}
+        best = least(name, commands, world)
         if name == "nothing":
             start = best
             continue
-        took = {way: max(best[way] - start[way], 0.001) for way in best}
+        took = {way: max(best.get(way, math.inf) - start[way], 0.001) for way in start}
         for way in ways:
             ratios[way] += [took[way] / took["flowc"]] if took[way] < math.inf else []
         shown = [f"{took[way]:.3f} s" if took[way] < math.inf else "-" for way in took]
@@ -130,7 +142,7 @@ def count(program, folder):
     print("|---|---|")
     for name in COUNTED:
         module = build(program, folder, name)
-        few, many = (instructions(program, module, folder / "world", steps, folder) for steps in (FEW, MANY))
+        few, many = (instructions(program, module, world_of(folder, name), steps, folder) for steps in (FEW, MANY))
         row([name, f"{(many - few) / (MANY - FEW):.1f}"])
 
 

@@ -53,6 +53,12 @@ fn read_instruction(
         bytes.now) }
     ensures inside { IfOk result (λ x. width_of x.0 ≤ room) }
 {
+    if room > 0
+        && !bytes.is_empty()
+        && let Some(instruction) = read_plain(version, bytes)
+    {
+        return Ok((instruction, &bytes[1..]));
+    }
     let (opcode, rest) = read_byte(bytes)?;
     let Some(width) = width_after(version, opcode) else {
         return Err(refuse(FormatRefusalKind::BadValue, bytes));

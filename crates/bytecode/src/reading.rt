@@ -104,10 +104,18 @@ pub(crate) fn give_back<T>(items: &mut Vec<T>)
     }
 }
 
-/// The most fields for which there is room by a count alone, which the bytes only claim: most lists have fewer.
-const FEW: u32 = 16;
+/// For how many fields there is room by a count alone, which the bytes only claim: most lists have fewer.
+const FEW: usize = 16;
 
-/// This many fields, one after the other. By the count room is made for a few alone, and the list keeps little more room than it takes.
+/// Where there are more, there is room at first for one in this many of the bytes that are left.
+const BYTES_FOR_ONE: usize = 128;
+
+// For how many fields of a list there is room at first: never for more than a few and a part of the bytes that are left.
+fn fields_at_first(count: u32, bytes: &[u8]) -> usize {
+    (count as usize).min(FEW + bytes.len() / BYTES_FOR_ONE)
+}
+
+/// This many fields, one after the other. The list keeps little more room than it takes.
 pub(crate) fn read_each<'a, E: Element>(
     alloc: Global,
     element: &E,
@@ -122,7 +130,7 @@ where
     ensures { Decodes (λ x. (x.0.items, x.1.now)) result (each_at (E.reads element.now) count []
         bytes.now) }
 {
-    let mut items = Vec::with_capacity(alloc, count.min(FEW) as usize)?;
+    let mut items = Vec::with_capacity(alloc, fields_at_first(count, bytes))?;
     let mut rest = bytes;
     for _ in 0..count {
         let (item, after) = element.read(alloc, &mut state, &items, rest)?;

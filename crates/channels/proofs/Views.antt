@@ -1,9 +1,9 @@
 -- The text of a view grows at its end, a pair at a time.
-use Rattle.std.proofs.Common.{Result, Ok, Err, OnErr, ◌≡◌, ◌∙◌, ap, subst, ℕ, ◌+◌, ◌<◌, ◌≤◌, true, false, List, [], ◌∷◌, ◌++◌, length, take, drop, refl, sym, get_or, append_assoc, Option, Some, None}
+use Rattle.std.proofs.Common.{Result, Ok, Err, OnErr, ◌≡◌, ◌∙◌, ap, ℕ, ◌+◌, ◌<◌, true, false, List, [], ◌∷◌, ◌++◌, length, take, drop, refl, sym, get_or, append_assoc, Option, Some, None}
 use Rattle.std.proofs.Math.Numerals.{add-one}
 use Rattle.std.proofs.Math.Seq.{take-suc}
-use Rattle.std.proofs.KnownBytes.{Appends-nil, Appends-trans}
-use Rattle.std.proofs.lemmas.List.{append-nil, take-append-drop, take_all}
+use Rattle.std.proofs.KnownBytes.{Appends-trans}
+use Rattle.std.proofs.lemmas.List.{append-nil, take-append-drop}
 use Rattle.std.proofs.lemmas.List.Elements.{filter-append}
 use Rattle.std.specs.Io.KnownBytes.{Appends}
 use Rattle.common.specs.declared.sent.Pair.{Pair}
@@ -57,28 +57,46 @@ line_text : (h : PrincipalHierarchy) (m : ModuleContents) (observer : Option ℕ
 line_text h m observer pair line is spelled =
     spelled ∙ sym (append-nil (pair_line m pair)) ∙ ap (view_text m) (sym (shown_pair h m observer pair is))
 
--- what holds the text so far holds the text after one more pair: with its line where it is shown, as it is where it is not
-pub one_shown : (h : PrincipalHierarchy) (m : ModuleContents) (observer : Option ℕ) (pairs : List Pair) (k : ℕ) (pair : Pair) (old mid new : Option (List ℕ)) (line : List ℕ)
-    → k < length pairs → is_shown h m observer (get_or pairs k pair) ≡ true → line ≡ pair_line m (get_or pairs k pair)
-    → Appends old mid (view_text m (observer_view h m observer (take k pairs))) → Appends mid new line
-    → Appends old new (view_text m (observer_view h m observer (take (k + 1) pairs)))
-one_shown h m observer pairs k pair old mid new line small is spelled before now =
-    let front = view_text m (observer_view h m observer (take k pairs)) in
-    subst (λ (text : List ℕ). Appends old new text)
-    (ap (λ text. front ++ text) (line_text h m observer (get_or pairs k pair) line is spelled) ∙ view-suc h m observer pairs k pair small)
-    (Appends-trans old mid new front line before now)
+-- what an observer is shown of some pairs is written, up to a text that is held back
+abbrev pub IsHeld : PrincipalHierarchy → ModuleContents → Option ℕ → List Pair → (held : List ℕ) → (old new : Option (List ℕ)) → Type 0
+IsHeld h m observer pairs held old new =
+    (front : List ℕ) × (front ++ held ≡ view_text m (observer_view h m observer pairs)) × Appends old new front
 
-pub one_hidden : (h : PrincipalHierarchy) (m : ModuleContents) (observer : Option ℕ) (pairs : List Pair) (k : ℕ) (pair : Pair) (old new : Option (List ℕ))
+-- after one more pair its line is held back too, where it is shown, and no more than before where it is not
+pub one_held : (h : PrincipalHierarchy) (m : ModuleContents) (observer : Option ℕ) (pairs : List Pair) (k : ℕ) (pair : Pair) (old new : Option (List ℕ)) (held line : List ℕ)
+    → k < length pairs → is_shown h m observer (get_or pairs k pair) ≡ true → line ≡ pair_line m (get_or pairs k pair)
+    → IsHeld h m observer (take k pairs) held old new → IsHeld h m observer (take (k + 1) pairs) (held ++ line) old new
+one_held h m observer pairs k pair old new held line small is spelled before = (
+  before.0,
+  sym (append_assoc before.0 held line)
+      ∙ ap (λ text. text ++ line) before.1
+      ∙ ap (λ text. view_text m (observer_view h m observer (take k pairs)) ++ text) (line_text h m observer (get_or pairs k pair) line is spelled)
+      ∙ view-suc h m observer pairs k pair small,
+  before.2,
+)
+
+pub none_more : (h : PrincipalHierarchy) (m : ModuleContents) (observer : Option ℕ) (pairs : List Pair) (k : ℕ) (pair : Pair) (old new : Option (List ℕ)) (held : List ℕ)
     → k < length pairs → is_shown h m observer (get_or pairs k pair) ≡ false
-    → Appends old new (view_text m (observer_view h m observer (take k pairs)))
-    → Appends old new (view_text m (observer_view h m observer (take (k + 1) pairs)))
-one_hidden h m observer pairs k pair old new small is before =
-    let front = view_text m (observer_view h m observer (take k pairs)) in
-    subst (λ (text : List ℕ). Appends old new text)
-    (sym (append-nil front)
-    ∙ ap (λ list. front ++ view_text m list) (sym (hidden_pair h m observer (get_or pairs k pair) is))
-    ∙ view-suc h m observer pairs k pair small)
-    before
+    → IsHeld h m observer (take k pairs) held old new → IsHeld h m observer (take (k + 1) pairs) held old new
+none_more h m observer pairs k pair old new held small is before =
+    let front = view_text m (observer_view h m observer (take k pairs)) in (
+      before.0,
+      before.1
+          ∙ sym (append-nil front)
+          ∙ ap (λ list. front ++ view_text m list) (sym (hidden_pair h m observer (get_or pairs k pair) is))
+          ∙ view-suc h m observer pairs k pair small,
+      before.2,
+    )
+
+pub same_held : (h : PrincipalHierarchy) (m : ModuleContents) (observer : Option ℕ) (pairs : List Pair) (old new : Option (List ℕ)) (held text : List ℕ)
+    → text ≡ held → IsHeld h m observer pairs held old new → IsHeld h m observer pairs text old new
+same_held h m observer pairs old new held text e before = (before.0, ap (λ list. before.0 ++ list) e ∙ before.1, before.2)
+
+-- what was held back is written, and nothing is then
+pub all_given : (h : PrincipalHierarchy) (m : ModuleContents) (observer : Option ℕ) (pairs : List Pair) (old mid new : Option (List ℕ)) (held : List ℕ)
+    → IsHeld h m observer pairs held old mid → Appends mid new held → IsHeld h m observer pairs [] old new
+all_given h m observer pairs old mid new held before now =
+    (before.0 ++ held, append-nil (before.0 ++ held) ∙ before.1, Appends-trans old mid new before.0 held before.2 now)
 
 -- the text of the first pairs is a prefix of the text of all
 front-prefix : (h : PrincipalHierarchy) (m : ModuleContents) (observer : Option ℕ) (pairs : List Pair) (k : ℕ)
@@ -90,35 +108,21 @@ front-prefix h m observer pairs k = (
       ∙ ap (λ list. view_text m (observer_view h m observer list)) (take-append-drop k pairs),
 )
 
--- where nothing more was written after the first pairs, that is a prefix
-pub cut_before : (h : PrincipalHierarchy) (m : ModuleContents) (observer : Option ℕ) (pairs : List Pair) (k : ℕ) (old new : Option (List ℕ))
-    → Appends old new (view_text m (observer_view h m observer (take k pairs)))
-    → AppendsPrefix old new (view_text m (observer_view h m observer pairs))
-cut_before h m observer pairs k old new before = (view_text m (observer_view h m observer (take k pairs)), front-prefix h m observer pairs k, before)
+-- where nothing more was written, or what was held back in part, that is a prefix of the text of all
+pub cut_before : (h : PrincipalHierarchy) (m : ModuleContents) (observer : Option ℕ) (pairs : List Pair) (k : ℕ) (old new : Option (List ℕ)) (held : List ℕ)
+    → IsHeld h m observer (take k pairs) held old new → AppendsPrefix old new (view_text m (observer_view h m observer pairs))
+cut_before h m observer pairs k old new held before =
+    let more = view_text m (observer_view h m observer (take k pairs)) in
+    (before.0, prefix-through before.0 more (view_text m (observer_view h m observer pairs)) (held, before.1) (front-prefix h m observer pairs k), before.2)
 
--- where the line of the next pair was written in part, that is a prefix too
-pub cut_within : (h : PrincipalHierarchy) (m : ModuleContents) (observer : Option ℕ) (pairs : List Pair) (k : ℕ) (pair : Pair) (old mid new : Option (List ℕ)) (line : List ℕ)
-    → k < length pairs → is_shown h m observer (get_or pairs k pair) ≡ true → line ≡ pair_line m (get_or pairs k pair)
-    → Appends old mid (view_text m (observer_view h m observer (take k pairs))) → AppendsPrefix mid new line
-    → AppendsPrefix old new (view_text m (observer_view h m observer pairs))
-cut_within h m observer pairs k pair old mid new line small is spelled before part =
-    let front = view_text m (observer_view h m observer (take k pairs)) in
-    let more = view_text m (observer_view h m observer (take (k + 1) pairs)) in
-    let line_is : front ++ line ≡ more = ap (λ text. front ++ text) (line_text h m observer (get_or pairs k pair) line is spelled) ∙ view-suc h m observer pairs k pair small in
-    let prefix : IsPrefix (front ++ part.0) more = (part.1.0, append_assoc front part.0 part.1.0 ∙ ap (λ text. front ++ text) part.1.1 ∙ line_is) in
-    (front ++ part.0, prefix-through (front ++ part.0) more (view_text m (observer_view h m observer pairs)) prefix (front-prefix h m observer pairs (k + 1)), Appends-trans old mid new front part.0 before part.2)
-
--- nothing written is the text of no pairs, and the text of as many pairs as there are is the text of all
-pub none_shown : (h : PrincipalHierarchy) (m : ModuleContents) (observer : Option ℕ) (pairs : List Pair) (old : Option (List ℕ))
-    → Appends old old (view_text m (observer_view h m observer (take 0 pairs)))
-none_shown h m None pairs old = Appends-nil old
-none_shown h m (Some p) pairs old = Appends-nil old
-
-pub all_shown : (h : PrincipalHierarchy) (m : ModuleContents) (observer : Option ℕ) (pairs : List Pair) (k : ℕ) (old new : Option (List ℕ)) → length pairs ≤ k
-    → Appends old new (view_text m (observer_view h m observer (take k pairs)))
-    → Appends old new (view_text m (observer_view h m observer pairs))
-all_shown h m observer pairs k old new all before =
-    subst (λ (list : List Pair). Appends old new (view_text m (observer_view h m observer list))) (take_all k pairs all) before
+pub cut_within : (h : PrincipalHierarchy) (m : ModuleContents) (observer : Option ℕ) (pairs : List Pair) (k : ℕ) (old mid new : Option (List ℕ)) (held : List ℕ)
+    → IsHeld h m observer (take k pairs) held old mid → AppendsPrefix mid new held → AppendsPrefix old new (view_text m (observer_view h m observer pairs))
+cut_within h m observer pairs k old mid new held before part =
+    cut_before h m observer pairs k old new part.1.0 (
+      before.0 ++ part.0,
+      append_assoc before.0 part.0 part.1.0 ∙ ap (λ text. before.0 ++ text) part.1.1 ∙ before.1,
+      Appends-trans old mid new before.0 part.0 before.2 part.2,
+    )
 
 -- what a channel's answer says of a pair on it
 pub readable_is : (h : PrincipalHierarchy) (m : ModuleContents) (observer k : ℕ)

@@ -146,6 +146,9 @@ fn line_of(alloc: Global, program: &Module, pair: Pair) -> Result<String, AllocE
     format!(in alloc; "{name} {number}\n")
 }
 
+// So many bytes of lines are written at once, or up to a line more.
+const BLOCK: usize = 8192;
+
 // Writes a line for each pair that the observer is shown.
 fn write_lines<S: Sink>(
     alloc: Global,
@@ -160,12 +163,19 @@ fn write_lines<S: Sink>(
     ensures kept { OnOk result (S.has_failed out.new ≡ S.has_failed out.old) }
     ensures rejected { IfErr result (IfRefused (λ _. IsTrue (S.has_failed out.new))) }
 {
+    // Lines are put together, so that a sink that costs much for each write is asked seldom.
+    let mut lines = Vec::new(alloc);
     for pair in pairs {
         if observer.sees(*pair) {
             let line = line_of(alloc, observer.program, *pair)?;
-            write_all(out, line.as_bytes())?;
+            lines.extend_from_slice(line.as_bytes())?;
+            if lines.len() >= BLOCK {
+                write_all(out, &lines)?;
+                lines.clear();
+            }
         }
     }
+    write_all(out, &lines)?;
     Ok(())
 }
 

@@ -24,6 +24,14 @@ makes_file (Run file world under observer steps) = false
 makes_file (ListModule file) = false
 makes_file (Explain hierarchy source) = false
 
+-- whether a task hands out the program that it checked
+abbrev pub hands_out : Task → Bool
+hands_out (Check hierarchy source) = true
+hands_out (Build hierarchy source out) = true
+hands_out (Run file world under observer steps) = false
+hands_out (ListModule file) = false
+hands_out (Explain hierarchy source) = false
+
 -- whether a task looks at a source
 abbrev pub reads_source : Task → Bool
 reads_source (Check hierarchy source) = true

@@ -5,7 +5,7 @@ ghost use Rattle.flowc.specs.Given.{text_of};
 ghost use Rattle.flowc.specs.Lines.{line_of_fault};
 ghost use Rattle.flowc.specs.Messages.{WritesMessage, WroteLine};
 ghost use Rattle.flowc.specs.Stdout.{WritesStdout};
-ghost use Rattle.flowc.specs.Task.{files_of, makes_file, may_end, reads_source, status_of_fault};
+ghost use Rattle.flowc.specs.Task.{files_of, hands_out, makes_file, may_end, reads_source, status_of_fault};
 ghost use Rattle.resolved.specs.CoreOf.{program_of};
 ghost use Rattle.std.specs.Prelude.{[], ◌≡◌, ◌+◌, ◌≤◌, ◌<◌, ◌↔◌, IfSome, IsSome, IsTrue, MatchResult, None, Some, length, option_map};
 ghost use Rattle.std.specs.String.{string_bytes};
@@ -47,8 +47,8 @@ impl fmt::Debug for Done {
 /// On standard error stands one line: the fault that the task ended with, or, of a run without an observer, the end that it came to.
 /// Any other task that ends with status 0 has no line.
 ///
-/// There are bytes for the output file exactly where a task builds a module and ends with status 0. A checked program that is handed
-/// out is the one that the texts of the first two files stand for.
+/// There are bytes for the output file exactly where a task builds a module and ends with status 0. A checked program is handed out
+/// exactly where a task checks or builds and ends with status 0: the one that the texts of the first two files stand for.
 pub fn perform<O: Sink, E: Sink>(
     alloc: Global,
     task: &Task,
@@ -61,6 +61,8 @@ pub fn perform<O: Sink, E: Sink>(
     ensures status { IsTrue (may_end task.now result.status) }
     ensures code { IsSome result.code ↔ (IsTrue (makes_file task.now) × (result.status ≡ 0)) }
     ensures compiled { IfSome result.code (λ code. IsBuilt files.now code.items) }
+    ensures handed_out { IsSome result.checked
+        ↔ (IsTrue (hands_out task.now) × (result.status ≡ 0)) }
     ensures checked { IfSome result.checked (λ checked. StandFor
         (bytes_at files.now 0) (bytes_at files.now 1) (program_of checked.core)) }
     ensures accepted { IsTrue (reads_source task.now) → result.status ≡ 0 → HoldsProgram files.now }

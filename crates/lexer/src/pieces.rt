@@ -22,27 +22,6 @@ pub(crate) struct Piece<'a> {
     pub(crate) rest: &'a str,
 }
 
-// 1 at each byte that is white space
-#[rattlefmt::skip]
-static BLANKS: [u8; 256] = [
-    0, 0, 0, 0, 0, 0, 0, 0, 0, 1, 1, 0, 0, 1, 0, 0,
-    0, 0, 0, 0, 0, 0, 0, 0, 0, 0, 0, 0, 0, 0, 0, 0,
-    1, 0, 0, 0, 0, 0, 0, 0, 0, 0, 0, 0, 0, 0, 0, 0,
-    0, 0, 0, 0, 0, 0, 0, 0, 0, 0, 0, 0, 0, 0, 0, 0,
-    0, 0, 0, 0, 0, 0, 0, 0, 0, 0, 0, 0, 0, 0, 0, 0,
-    0, 0, 0, 0, 0, 0, 0, 0, 0, 0, 0, 0, 0, 0, 0, 0,
-    0, 0, 0, 0, 0, 0, 0, 0, 0, 0, 0, 0, 0, 0, 0, 0,
-    0, 0, 0, 0, 0, 0, 0, 0, 0, 0, 0, 0, 0, 0, 0, 0,
-    0, 0, 0, 0, 0, 0, 0, 0, 0, 0, 0, 0, 0, 0, 0, 0,
-    0, 0, 0, 0, 0, 0, 0, 0, 0, 0, 0, 0, 0, 0, 0, 0,
-    0, 0, 0, 0, 0, 0, 0, 0, 0, 0, 0, 0, 0, 0, 0, 0,
-    0, 0, 0, 0, 0, 0, 0, 0, 0, 0, 0, 0, 0, 0, 0, 0,
-    0, 0, 0, 0, 0, 0, 0, 0, 0, 0, 0, 0, 0, 0, 0, 0,
-    0, 0, 0, 0, 0, 0, 0, 0, 0, 0, 0, 0, 0, 0, 0, 0,
-    0, 0, 0, 0, 0, 0, 0, 0, 0, 0, 0, 0, 0, 0, 0, 0,
-    0, 0, 0, 0, 0, 0, 0, 0, 0, 0, 0, 0, 0, 0, 0, 0,
-];
-
 // 1 at each byte that is an ASCII character with which a name goes on
 #[rattlefmt::skip]
 static NAME_PARTS: [u8; 256] = [
@@ -68,7 +47,7 @@ static NAME_PARTS: [u8; 256] = [
 fn is_blank(byte: u8) -> bool
     ensures { result ≡ (nat_lt byte 128 && is_white_space byte) }
 {
-    BLANKS[usize::from(byte)] == 1
+    byte < 128 && is_white_space(char::from(byte))
 }
 
 #[inline(always)]
@@ -175,6 +154,7 @@ fn begins_far_name(character: char) -> bool
     !character.is_ascii() && begins_name(character)
 }
 
+#[inline(always)]
 fn is_white_space(character: char) -> bool
     ensures { result ≡ is_white_space character }
 {

@@ -16,4 +16,6 @@ pub mod OpenCells
 pub mod Entering
 pub mod Preparing
 pub mod Looping
+pub mod Passing
 pub mod Dispatching
+pub mod Effects

@@ -5,3 +5,4 @@ pub mod Steps
 pub mod OpenCells
 pub mod Inner
 pub mod RefusalKinds
+pub mod Effects

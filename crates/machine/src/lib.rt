@@ -1,6 +1,7 @@
 //! The machine: runs of verified modules, step by step.
 #![tactic(auto)]
 
+mod catching;
 pub mod fault;
 mod frames;
 mod inner;

@@ -458,35 +458,6 @@ fn is_alone(kept: &[Kept], number: usize, only: usize) -> bool
     }
 }
 
-// The number of the row of a written element alone, if that is all that a left side has and an unknown is noted that has this row, and
-// an unknown has no number yet.
-fn taken_alone(
-    kept: &[Kept],
-    of: &[usize],
-    alone: &[usize],
-    unknown: usize,
-    left: &[Atom],
-) -> Option<usize>
-    requires shared { AreShared kept.now of.now }
-    requires unknown { unknown < length of.now }
-    ensures number { IfSome result (λ number. number < length kept.now) }
-    ensures more { IfSome result (λ number. (count : ℕ)
-        → AreSized count (map (bits_of kept.now) of.now)
-        → IsMore (map (bits_of kept.now) of.now) count unknown left.now
-        (bits_of kept.now number)) }
-{
-    let only = only_written(left)?;
-    let from = *alone.get(only)?;
-    let number = *of.get(from)?;
-    if !is_alone(kept, number, only) {
-        return None;
-    }
-    if !is_below_zero(kept, of[unknown]) {
-        return None;
-    }
-    Some(number)
-}
-
 // The number of a row that is all that a left side has, if one is seen at once and an unknown has no number yet.
 fn taken(
     kept: &[Kept],
@@ -506,7 +477,17 @@ fn taken(
     if let Some(number) = taken_over(kept, of, unknown, left) {
         return Some(number);
     }
-    taken_alone(kept, of, alone, unknown, left)
+    // Or it is a written element alone, and an unknown is noted that has the row of it.
+    let only = only_written(left)?;
+    let from = *alone.get(only)?;
+    let number = *of.get(from)?;
+    if !is_alone(kept, number, only) {
+        return None;
+    }
+    if !is_below_zero(kept, of[unknown]) {
+        return None;
+    }
+    Some(number)
 }
 
 // Notes that the row of an unknown is that of the written element of which a left side consists, if it is one only.

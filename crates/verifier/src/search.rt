@@ -239,7 +239,7 @@ impl ReachedOffsets {
         ensures rejected { IfErr result (IfRefused
             (IsOperandFlowRefusal body.now.program.now body.now.procedure.now)) }
     {
-        self.enter_all(body, coverage, at)?;
+        self.enter_all(at, body, coverage)?;
         Ok(())
     }
 
@@ -247,9 +247,9 @@ impl ReachedOffsets {
     #[inline(never)]
     fn enter_all(
         &mut self,
+        at: u32,
         body: &IndexedProcedure,
         coverage: &mut Coverage,
-        at: u32,
     ) -> Result<(), FlowFault>
         requires { IsRaising body.now coverage.old self.old at }
         ensures accepted { OnOk result (HasRaised body.now coverage.new self.old self.new at) }

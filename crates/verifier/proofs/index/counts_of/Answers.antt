@@ -31,7 +31,6 @@ loop-word-preserved c =
             ∙ get_or-append_seam c.loop-word.counts.items c.loop-word.count [] 0 ∙ v.count_is ∙ ap (λ n. starts_before starts (64 * n)) (sym same)
       ];
       long = ap length items ∙ omega (arith, length-append c.loop-word.counts.items (c.loop-word.count ∷ []), v.long);
-      many = search rules;
       room = search rules;
     }
 

@@ -1,5 +1,4 @@
 use Rattle.std.proofs.Common.{◌≡◌, ℕ, ◌<◌, ◌≤◌, ◌*◌, length, get_or}
-use Rattle.std.specs.Vec.{vec_capacity, vec_len}
 use Rattle.verifier.specs.Starts.{starts_before}
 use Rattle.verifier.proofs.index.counts_of.Given as goal
 
@@ -8,6 +7,5 @@ invariant-loop-word l = record {
   count_is : l.count ≡ starts_before l.starts (64 * l.word-index);
   counted : (j : ℕ) → j < l.word-index → get_or l.counts.items j 0 ≡ starts_before l.starts (64 * j);
   long : length l.counts.items ≡ l.word-index;
-  many : vec_len l.counts ≡ l.word-index;
-  room : length l.starts ≤ vec_capacity l.counts;
+  room : length l.starts ≤ l.counts.capacity;
 }

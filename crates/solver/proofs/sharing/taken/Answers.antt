@@ -4,7 +4,7 @@ use Rattle.std.proofs.lemmas.List.{length-map}
 use Rattle.solver.specs.Sharing.{bits_of}
 use Rattle.solver.proofs.Alone.{more-alone}
 use Rattle.solver.proofs.Standing.{map-read}
-use Rattle.solver.proofs.sharing.taken_alone.Goals as goal
+use Rattle.solver.proofs.sharing.taken.Goals as goal
 
 pub returns-clause-more : goal.returns-clause-more
 returns-clause-more c = λ count sized.
