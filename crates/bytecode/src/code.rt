@@ -7,7 +7,7 @@ ghost use Rattle.bytecode.specs.Reading.{Decodes, GoesOn, IsFirst, IsRest};
 ghost use Rattle.modules.specs.declared.version.Version.{Version};
 ghost use Rattle.std.specs.Prelude.{[], IfOk, IfSome, length, ◌+◌, ◌≡◌, ◌≤◌};
 
-use crate::reading::{FieldFault, give_back, make_room, read_byte, read_number, read_text, refuse};
+use crate::reading::{FieldFault, give_back, grow, read_byte, read_number, read_text, refuse};
 use modules::instruction::Instruction;
 use modules::opcode::{entry_of, instruction_of, numbered_instruction, width_after};
 use modules::{FormatRefusalKind, Version};
@@ -83,23 +83,26 @@ fn room_at_first(size: u32, bytes: &[u8]) -> usize {
     }
 }
 
-/// Instructions at the front, while there are five bytes and they begin with one that has a number or no operand, after those
-/// that were read before; and the bytes after them. It is inlined, so that the list's end stays in a register.
+/// Instructions at the front, while there are five bytes and they begin with one that has a number or no operand, and where there are
+/// fewer, while they begin with one that has no operand, after those that were read before; and the bytes after them. It is inlined and
+/// takes the list itself, so that the list stays in registers.
 #[inline(always)]
-fn read_most<'a>(
+fn read_most(
     version: Version,
-    code: &mut Vec<Instruction>,
-    bytes: &'a [u8],
-) -> Result<&'a [u8], AllocError>
-    ensures goes_on { IfOk result (λ rest. GoesOn version code.old.items code.new.items bytes.now
-        rest.now) }
-    ensures few { IfOk result (λ rest. length rest.now + length code.new.items
-        ≤ length bytes.now + length code.old.items) }
-    ensures rest { IfOk result (λ rest. IsRest bytes.now rest.now) }
+    before: Vec<Instruction>,
+    bytes: &[u8],
+) -> Result<(Vec<Instruction>, &[u8]), AllocError>
+    ensures goes_on { IfOk result (λ x. GoesOn version before.items x.0.items bytes.now x.1.now) }
+    ensures few { IfOk result (λ x. length x.1.now + length x.0.items
+        ≤ length bytes.now + length before.items) }
+    ensures rest { IfOk result (λ x. IsRest bytes.now x.1.now) }
 {
+    let mut code = before;
     let mut front = bytes;
     while front.len() >= 5 {
-        make_room(code)?;
+        if code.len() == code.capacity() {
+            code = grow(code)?;
+        }
         if let Some(next) = read_numbered(front) {
             code.push_reserved(next);
             front = &front[5..];
@@ -110,7 +113,17 @@ fn read_most<'a>(
             break;
         }
     }
-    Ok(front)
+    while front.len() < 5 && !front.is_empty() {
+        if code.len() == code.capacity() {
+            code = grow(code)?;
+        }
+        let Some(next) = read_plain(version, front) else {
+            break;
+        };
+        code.push_reserved(next);
+        front = &front[1..];
+    }
+    Ok((code, front))
 }
 
 /// The instructions of a version that the next `size` bytes are. Room is made by the size only where as many bytes are there, and what
@@ -131,18 +144,24 @@ fn read_instructions(
     let mut room = size as usize;
     while room > 0 {
         let front = &rest[..room.min(rest.len())];
-        let count = front.len() - read_most(version, &mut code, front)?.len();
+        let (more, left) = read_most(version, code, front)?;
+        let count = front.len() - left.len();
         room -= count;
         rest = &rest[count..];
+        code = more;
         if room > 0 {
             let (next, after) = read_instruction(version, room as u32, rest)?;
-            code.push(next)?;
+            if code.len() == code.capacity() {
+                code = grow(code)?;
+            }
+            code.push_reserved(next);
             room -= next.width();
             rest = after;
         }
     }
-    give_back(&mut code);
-    Ok((code, rest))
+    let mut kept = code;
+    give_back(&mut kept);
+    Ok((kept, rest))
 }
 
 /// The code of a version after its length.

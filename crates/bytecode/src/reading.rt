@@ -95,6 +95,17 @@ pub(crate) fn make_room<T>(items: &mut Vec<T>) -> Result<(), AllocError>
     items.reserve(1)
 }
 
+/// A list with room for one more item. It takes the list itself, so that where it is called the list stays in registers.
+#[inline(never)]
+pub(crate) fn grow<T: Drop>(items: Vec<T>) -> Result<Vec<T>, AllocError>
+    ensures same { IfOk result (λ more. more.items ≡ items.items) }
+    ensures room { IfOk result (λ more. vec_len more < vec_capacity more) }
+{
+    let mut more = items;
+    make_room(&mut more)?;
+    Ok(more)
+}
+
 /// Gives back the room that a list does not take, where that is more than a quarter of what it takes.
 pub(crate) fn give_back<T>(items: &mut Vec<T>)
     ensures { items.new.items ≡ items.old.items }

@@ -30,6 +30,8 @@ impl Sent {
     }
 
     /// Adds a pair at the end, or changes nothing where memory runs out.
+    // It is not inlined, so that a loop that sends has its registers for itself.
+    #[inline(never)]
     pub fn push(&mut self, pair: Pair) -> Result<(), AllocError>
         ensures accepted { OnOk result (self.new ≡ self.old ++ pair ∷ []) }
         ensures unchanged { OnErr result (self.new ≡ self.old) }

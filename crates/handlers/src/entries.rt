@@ -2,7 +2,7 @@
 
 ghost use Rattle.handlers.specs.Targets.{Arranges, IsAscending, is_before, next_of, entries_of_handler, target_from};
 ghost use Rattle.std.specs.Option.{option_or};
-ghost use Rattle.std.specs.Prelude.{IfOk, None, slice_get, ◌≡◌};
+ghost use Rattle.std.specs.Prelude.{[], IfOk, None, length, slice_get, take, ◌∷◌, ◌≡◌, ◌≤◌};
 
 use modules::Handler;
 use std::alloc::{AllocError, Global};
@@ -104,34 +104,60 @@ fn merge(
     }
 }
 
+// The entries of one handler, of which as many as the number count: both, or none where it takes nothing.
+fn pair_of(handler: Handler) -> ([TableEntry; 2], usize)
+    ensures entries { take result.1 result.0 ≡ entries_of_handler handler }
+    ensures arranges { Arranges (take result.1 result.0) (handler ∷ []) }
+    ensures few { result.1 ≤ 2 }
+    ensures pair { length result.0 ≡ 2 }
+{
+    let exception = handler.exception;
+    let start = ThrowSite {
+        exception,
+        offset: handler.start,
+    };
+    let end = ThrowSite {
+        exception,
+        offset: handler.end,
+    };
+    let pair = [
+        TableEntry {
+            site: start,
+            target: Some(handler.target),
+        },
+        TableEntry {
+            site: end,
+            target: None,
+        },
+    ];
+    if handler.start < handler.end {
+        return (pair, 2);
+    }
+    (pair, 0)
+}
+
 // The entries of one handler: none where it takes nothing.
 fn entries_of_handler(alloc: Global, handler: Handler) -> Result<Vec<TableEntry>, AllocError>
     ensures { IfOk result (λ entries. entries.items ≡ entries_of_handler handler) }
 {
-    let mut entries = Vec::new(alloc);
-    if handler.start < handler.end {
-        let exception = handler.exception;
-        let start = ThrowSite {
-            exception,
-            offset: handler.start,
-        };
-        let end = ThrowSite {
-            exception,
-            offset: handler.end,
-        };
-        entries.push(TableEntry {
-            site: start,
-            target: Some(handler.target),
-        })?;
-        entries.push(TableEntry {
-            site: end,
-            target: None,
-        })?;
-    }
-    Ok(entries)
+    let (pair, count) = pair_of(handler);
+    pair[..count].to_vec(alloc)
 }
 
-/// The entries of these handlers. It calls itself on each half of them, as deep as the logarithm of their number, and each depth
+// The entries of two handlers. Those of each need no memory.
+fn entries_of_two(
+    alloc: Global,
+    first: Handler,
+    second: Handler,
+) -> Result<Vec<TableEntry>, AllocError>
+    ensures { IfOk result (λ entries. Arranges entries.items (first ∷ second ∷ [])) }
+{
+    let (pair, count) = pair_of(first);
+    let (other, others) = pair_of(second);
+    merge(alloc, &pair[..count], &other[..others])
+}
+
+/// The entries of these handlers. It calls itself on each half of more than two, as deep as the logarithm of their number, and each depth
 /// takes time in proportion to that number.
 pub fn entries_of(alloc: Global, handlers: &[Handler]) -> Result<Vec<TableEntry>, AllocError>
     ensures { IfOk result (λ entries. Arranges entries.items handlers.now) }
@@ -141,6 +167,9 @@ pub fn entries_of(alloc: Global, handlers: &[Handler]) -> Result<Vec<TableEntry>
     }
     if handlers.len() == 1 {
         return entries_of_handler(alloc, handlers[0]);
+    }
+    if handlers.len() == 2 {
+        return entries_of_two(alloc, handlers[0], handlers[1]);
     }
     let middle = handlers.len() / 2;
     let first = entries_of(alloc, &handlers[..middle])?;

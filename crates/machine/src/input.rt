@@ -34,6 +34,14 @@ impl Input {
         self.numbers.last().copied()
     }
 
+    /// Takes the next number, if there is one.
+    pub fn take(&mut self) -> Option<i32>
+        ensures next { result ≡ slice_get self.old 0 }
+        ensures rest { self.new ≡ drop 1 self.old }
+    {
+        self.numbers.pop()
+    }
+
     /// Takes the next number off.
     pub fn advance(&mut self)
         ensures { self.new ≡ drop 1 self.old }
@@ -70,6 +78,17 @@ impl RemainingInputs {
         ensures { result ≡ slice_get (slice_index_or self.now channel []) 0 }
     {
         self.inputs[channel as usize].next()
+    }
+
+    /// Takes the next number of a channel, if there is one.
+    #[inline(always)]
+    pub fn take(&mut self, channel: u32) -> Option<i32>
+        requires { channel < length self.old }
+        ensures next { result ≡ slice_get (slice_index_or self.old channel []) 0 }
+        ensures rest { self.new ≡ slice_set self.old channel
+            (drop 1 (slice_index_or self.old channel [])) }
+    {
+        self.inputs[channel as usize].take()
     }
 
     /// Takes the next number of a channel off.

@@ -1,4 +1,5 @@
-ghost use Rattle.std.specs.Prelude.{◌≡◌, ◌++◌, ◌∷◌, [], ℕ, OnOk, map};
+ghost use Rattle.std.specs.Prelude.{◌≡◌, ◌<◌, ◌++◌, ◌∷◌, [], ℕ, IsErr, OnOk, map};
+ghost use Rattle.std.specs.Vec.{vec_capacity, vec_len};
 ghost use Rattle.lexer.specs.Terminal.{terminals_of};
 ghost use Rattle.lexer.specs.declared.token.Kind.TheVariants.{Comma, Else, Assign, OpenParenthesis};
 ghost use Rattle.syntax.specs.Form.{many, ◌·◌, ◌gives◌};
@@ -35,9 +36,35 @@ pub enum After<'a> {
     Arguments(Vec<Expression<'a>>),
 }
 
-/// Puts a statement after the others of its block. After the last one no room is kept for more, and a long list grows fourfold, so that
-/// fewer of its statements are moved. Not in line, so that a statement is moved as a whole.
+/// Makes room for one more statement in a block. For the last one no room is made for more, and a long list grows fourfold, so that fewer
+/// of its statements are moved.
+#[inline(always)]
+fn make_room(statements: &mut Vec<Statement<'_>>, is_last: bool) -> Result<(), AllocError>
+    ensures same { statements.new.items ≡ statements.old.items }
+    ensures room { OnOk result (vec_len statements.new < vec_capacity statements.new) }
+{
+    if statements.len() < statements.capacity() {
+        return Ok(());
+    }
+    if is_last {
+        return statements.reserve_exact(1);
+    }
+    if statements.len() >= LONG {
+        return statements.reserve(statements.len().saturating_mul(3));
+    }
+    statements.reserve(1)
+}
+
+/// Gives up a statement for which there is no room. Not in line, so that whoever has it does not take it apart.
 #[inline(never)]
+fn give_up(_statement: Statement<'_>) -> Result<(), AllocError>
+    ensures { IsErr result }
+{
+    Err(AllocError)
+}
+
+/// Puts a statement after the others of its block.
+#[inline(always)]
 fn push_statement<'a>(
     statements: &mut Vec<Statement<'a>>,
     statement: Statement<'a>,
@@ -46,12 +73,10 @@ fn push_statement<'a>(
     ensures { OnOk result
         (statements.new.items ≡ statements.old.items ++ statement.entry ∷ []) }
 {
-    if is_last {
-        statements.reserve_exact(1)?;
-    } else if statements.len() >= LONG && statements.len() == statements.capacity() {
-        statements.reserve(statements.len().saturating_mul(3))?;
+    if make_room(statements, is_last).is_err() {
+        return give_up(statement);
     }
-    statements.push(statement)?;
+    statements.push_reserved(statement);
     Ok(())
 }
 

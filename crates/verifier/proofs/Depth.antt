@@ -1,64 +1,24 @@
 -- The longest list of a search is as long as any that an instruction finds or leaves.
-use Rattle.std.proofs.Common.{◌≡◌, ◌⊎◌, inl, inr, ℕ, zero, suc, ◌+◌, ◌<◌, ◌≤◌, Bool, true, false, if◌then◌else◌, List, [], ◌∷◌, length, get_or, max, Option, Some, None, refl, sym, ap, ◌∙◌, arith}
-use Rattle.std.proofs.lemmas.Bool.{cases_lt}
+use Rattle.std.proofs.Common.{◌≡◌, ◌⊎◌, inl, inr, ℕ, suc, ◌+◌, ◌<◌, ◌≤◌, Bool, true, false, if◌then◌else◌, List, [], ◌∷◌, length, get_or, Option, Some, None, refl, ap, arith}
 use Rattle.modules.specs.Contents.{ProcedureContents, ModuleContents}
 use Rattle.modules.specs.Code.{width_of}
 use Rattle.modules.specs.Values.{is_same_kind}
 use Rattle.modules.specs.declared.instruction.Instruction.{Instruction}
 use Rattle.modules.specs.declared.instruction.Instruction.TheVariants.{Jump, Return, ReturnValue, Throw}
 use Rattle.common.specs.declared.base_type.BaseType.{BaseType}
-use Rattle.common.specs.declared.base_type.BaseType.TheVariants.{Int}
 use Rattle.verifier.specs.Depth.{IsMet, IsGreatestDepth, found, left}
 use Rattle.verifier.specs.Flow.{Effect, Leaves, Misses, all_popped, and_then, exchanged, next}
 use Rattle.verifier.specs.SignatureParts.{pushed}
 use Rattle.verifier.specs.Signatures.{InstructionSignature, signature}
 use Rattle.modules.specs.Targets.{goes_on}
-use Rattle.verifier.specs.Operands.{greatest, list_of, IsShared}
+use Rattle.verifier.specs.Operands.{list_of}
 use Rattle.verifier.specs.Index.{index_of}
 use Rattle.verifier.specs.Search.{list_for, shape_at, table, IsSearching, HaveLongest}
 use Rattle.verifier.specs.declared.fault.CodeRefusalKind.TheVariants.{OperandKind}
-use Rattle.verifier.specs.declared.operands.Link.{Link}
 use Rattle.verifier.specs.declared.search.ReachedOffsets.{ReachedOffsets}
 use Rattle.verifier.proofs.Laws.{flow_within}
 use Rattle.verifier.proofs.Reaching.{table_finished, no_items, shape_known}
 use Rattle.verifier.proofs.Runs.{leaves_same}
-
--- ---- the greatest depth of links
-
-max_cases : (a b : ℕ) → (max a b ≡ a) ⊎ (max a b ≡ b)
-max_cases a b = elim (cases_lt a b) [ inl h ↦ inr (omega (arith, h)) | inr h ↦ inl (omega (arith, h)) ]
-
-greatest_bound : (links : List Link) (k : ℕ) (d : Link) → k < length links → (get_or links k d).depth ≤ greatest links
-greatest_bound [] k d h = absurd (omega arith)
-greatest_bound (x ∷ links) zero d h = omega arith
-greatest_bound (x ∷ links) (suc k) d h = omega (arith, greatest_bound links k d (omega arith))
-
-greatest_there : (links : List Link) → (greatest links ≡ 0) ⊎ ((k : ℕ) × ((k < length links) × ((d : Link) → (get_or links k d).depth ≡ greatest links)))
-greatest_there [] = inl refl
-greatest_there (x ∷ links) = elim (max_cases x.depth (greatest links)) [
-  | inl own ↦ inr (0, (omega arith, λ d. sym own))
-  | inr more ↦ elim (greatest_there links) [
-    | inl none ↦ inl (more ∙ none)
-    | inr h ↦ inr (suc h.0, (omega (arith, h.1.0), λ d. h.1.1 d ∙ sym more))
-  ]
-]
-
-module _ (lists : List (List BaseType)) (links : List Link) (ints booleans : List (Option ℕ)) (s : IsShared lists links ints booleans) where
-  no_link : Link
-  no_link = record { kind = Int; below = 0; depth = 0; bits = 0; skip = 0 }
-
-  pub lists_bound : (k : ℕ) → k < length lists → length (list_of lists k) ≤ greatest links
-  lists_bound zero h = omega (arith, ap length s.root)
-  lists_bound (suc k) h =
-      let inside : k < length links = omega (arith, s.long) in
-      let at : k + 1 ≡ suc k = omega arith in
-      omega (arith, (s.link k no_link inside).depth, greatest_bound links k no_link inside, ap (λ j. length (list_of lists j)) at)
-
-  pub lists_there : (k : ℕ) × ((k < length lists) × (length (list_of lists k) ≡ greatest links))
-  lists_there = elim (greatest_there links) [
-    | inl none ↦ (0, (omega (arith, s.long), ap length s.root ∙ sym none))
-    | inr h ↦ (h.0 + 1, (omega (arith, s.long, h.1.0), sym (s.link h.0 no_link h.1.0).depth ∙ h.1.1 no_link))
-  ]
 
 -- ---- where nothing is pushed, no more is left than was found
 

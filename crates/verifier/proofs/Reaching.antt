@@ -2,6 +2,7 @@
 use Rattle.common.specs.Functions.{updated}
 use Rattle.std.proofs.Common.{is_some, map, slice_get, replicate, ◌≡◌, ◌≢◌, ◌⊎◌, inl, inr, ℕ, suc, zero, ◌+◌, ◌<◌, ◌≤◌, ◌==◌, Bool, true, false, if◌then◌else◌, List, [], ◌∷◌, ◌++◌, length, get_or, set, take, Option, Some, None, pos, refl, sym, ap, ◌∙◌, subst, arith, length-append}
 use Rattle.std.specs.List.{Contains}
+use Rattle.std.specs.Prelude.{IfNone, IfSome}
 use Rattle.std.proofs.lemmas.Bool.Decides.{nat_tests}
 use Rattle.std.proofs.lemmas.List.{length-replicate, get_or-set_same, get_or-set_other, get_or_append_left}
 use Rattle.std.proofs.lemmas.List.Elements.{Contains-append_left, Contains-push, Contains-push_cases}
@@ -27,7 +28,7 @@ use Rattle.verifier.specs.Boundaries.{IsBoundary, KeepsBoundaries}
 use Rattle.verifier.specs.Coverage.{IsCoverage, Waits}
 use Rattle.verifier.specs.Depth as Depth
 use Rattle.verifier.specs.Depth.{IsMet, found}
-use Rattle.verifier.specs.Search.{list_for, shape_at, shape_for, table, jump_of, AreMet, IsListed, IsWaiting, StandsAt, HasFollowedEdges, IsSearching, IsAtEdge, Flowed, KeepsSearching, IsApplied, HasEffect, HasInstruction, StartsWithEmpty, left, unset}
+use Rattle.verifier.specs.Search.{list_for, shape_at, shape_for, table, jump_of, AreMet, IsListed, IsWaiting, StandsAt, HasFollowedEdges, IsSearching, IsAtEdge, Flowed, KeepsSearching, IsApplied, HasEffect, HasInstruction, StartsWithEmpty, IsSearchingNext, count, left, unset}
 use Rattle.verifier.specs.declared.fault.CodeRefusalKind.TheVariants.{FallsOffEnd}
 use Rattle.verifier.specs.declared.coverage.Coverage.{Coverage}
 use Rattle.verifier.specs.declared.search.ReachedOffsets.{ReachedOffsets}
@@ -532,6 +533,23 @@ module _ (m : ModuleContents) (p : ProcedureContents) (s new : ReachedOffsets) (
   taken_instruction =
       let i = g.begins listed.at (list_of s.operands listed.list) waited.list in
       record { instruction = i.0; there = i.1; kinds = list_of s.operands listed.list; has = taken_table listed.at ∙ waited.list }
+
+-- what goes on after one that is taken, if there is one, or where nothing waits
+pub taken_next : (m : ModuleContents) (p : ProcedureContents) (s : ReachedOffsets) (work : List ListedOffset) (o : Option ListedOffset) → IsSearching m p s [] → IfSome o (λ listed. s.work ≡ work ++ listed ∷ []) → IfNone o (s.work ≡ []) → IfNone o (work ≡ []) → IsSearchingNext m p (record { operands = s.operands; shapes = s.shapes; work = work }) o
+taken_next m p s work None g some none empty = subst (λ (w : List ListedOffset). IsSearching m p (record { operands = s.operands; shapes = s.shapes; work = w }) []) (none ∙ sym empty) g
+taken_next m p s work (Some listed) g some none empty =
+    let new : ReachedOffsets = record { operands = s.operands; shapes = s.shapes; work = work } in (
+      taken m p s new listed g refl refl some,
+      (taken_instruction m p s new listed g refl refl some, taken_listed m p s new listed g refl refl some),
+    )
+
+pub taken_count : (old work : List ListedOffset) (o : Option ListedOffset) → IfSome o (λ listed. old ≡ work ++ listed ∷ []) → IfNone o (work ≡ []) → length work + count o ≤ length old
+taken_count old work None some empty = omega (arith, ap length empty)
+taken_count old work (Some listed) some empty = omega (arith, ap length some, length-append work (listed ∷ []))
+
+-- the table is that of the lists and what stands for them
+pub table_same : (p : ProcedureContents) (s new : ReachedOffsets) → new.operands ≡ s.operands → new.shapes ≡ s.shapes → (offset : ℕ) → table p new offset ≡ table p s offset
+table_same p s new operands shapes offset = ap (λ (v : List (Option ℕ)). list_for new.operands (shape_for v (get_or (index_of p.code) offset None))) shapes ∙ ap (λ ls. list_for ls (shape_at p s offset)) operands
 
 -- ---- the start
 

@@ -35,8 +35,7 @@ impl Numbers {
     pub(crate) fn restart(&mut self, count: usize) -> Result<(), AllocError>
         ensures { OnOk result (self.new ≡ replicate count None) }
     {
-        self.marks.clear();
-        self.marks.resize(count, 0)?;
+        fill(&mut self.marks, count)?;
         Ok(())
     }
 
@@ -65,6 +64,23 @@ impl Numbers {
     {
         self.marks[index] = number + 1;
     }
+}
+
+// How many marks are filled at once: few enough that they stay in the memory nearest to the processor until they are written.
+const BLOCK: usize = 256;
+
+// Makes a list this many zeros, in blocks.
+fn fill(marks: &mut Vec<u32>, count: usize) -> Result<(), AllocError>
+    ensures { OnOk result (marks.new.items ≡ replicate count 0) }
+{
+    marks.clear();
+    marks.reserve(count)?;
+    let mut size = 0;
+    while size < count {
+        size += (count - size).min(BLOCK);
+        marks.resize(size, 0)?;
+    }
+    Ok(())
 }
 
 // The number that a mark stands for, if any.

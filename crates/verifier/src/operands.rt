@@ -1,10 +1,10 @@
 //! The kinds of the operands with which control reaches instructions, as lists that share what is below.
 
 ghost use Rattle.verifier.specs.Flow.{Leaves, Misses, all_popped, between, popped};
-ghost use Rattle.verifier.specs.Operands.{bit, full_blocks, greatest, list_of, packed, IsLonger};
-ghost use Rattle.std.specs.Prelude.{◌≡◌, ◌≢◌, ◌+◌, ◌*◌, ◌<◌, ◌≤◌, ◌^◌, ℕ, List, Some, ◌∷◌, [], IfOk, IfErr, IfNone, IfSome, OnOk, drop, length, map, set};
+ghost use Rattle.verifier.specs.Operands.{above_of, bit, full_blocks, list_of, noted, on_top, packed, IsLonger};
+ghost use Rattle.verifier.specs.declared.operands.Node.{Node as TheNode};
+ghost use Rattle.std.specs.Prelude.{◌≡◌, ◌≢◌, ◌+◌, ◌*◌, ◌<◌, ◌≤◌, ◌^◌, ℕ, List, Some, ◌∷◌, [], IfOk, IfErr, IfNone, IfSome, OnOk, drop, length, map, set, slice_index_or};
 ghost use Rattle.common.specs.declared.base_type.BaseType.{BaseType};
-ghost use Rattle.common.specs.declared.base_type.BaseType.TheVariants.{Boolean, Int};
 
 use crate::fault::CodeRefusalKind;
 use common::BaseType;
@@ -17,15 +17,78 @@ const HIGHEST: u64 = 1 << 63;
 // For how many lists there is room at first: most procedures have no more.
 const FEW: usize = 16;
 
-// One more operand on a list: its kind, the number of the list below, and how many operands there are. So that 64 operands are
-// popped at once, also the kinds of the topmost 64 as bits, the top the lowest, and the number of the list below those.
+/// What is on top of a list: an operand of a kind, or nothing.
 #[derive(Clone, Copy, Debug)]
-struct Link {
-    kind: BaseType,
+enum Top {
+    Nothing,
+    Int,
+    Boolean,
+}
+
+// A list: what is on top of it, the number of the list below that, and how many operands there are. So that 64 operands are popped at
+// once, also the number of the list below the topmost 64, and their kinds as bits, the top the lowest. And the numbers of the lists with
+// an int and with a boolean on this one, or 0 for one that is not there.
+#[derive(Clone, Copy, Debug)]
+struct Node {
+    top: Top,
     below: u32,
     depth: u32,
-    bits: u64,
     skip: u32,
+    bits: u64,
+    int: u32,
+    boolean: u32,
+}
+
+// The empty list.
+const EMPTY: Node = Node {
+    top: Top::Nothing,
+    below: 0,
+    depth: 0,
+    skip: 0,
+    bits: 0,
+    int: 0,
+    boolean: 0,
+};
+
+fn top_of(kind: BaseType) -> Top
+    ensures { (kinds : List BaseType) → on_top result kinds ≡ kind ∷ kinds }
+{
+    match kind {
+        BaseType::Int => Top::Int,
+        BaseType::Boolean => Top::Boolean,
+    }
+}
+
+// Whether an operand of a kind, or of any, is taken off a list with this on top, or else what is wrong.
+fn take_top(wanted: Option<BaseType>, top: Top) -> Result<(), CodeRefusalKind>
+    ensures accepted { OnOk result ((kinds : List BaseType) →
+        popped wanted (on_top top kinds) ≡ Leaves kinds) }
+    ensures rejected { IfErr result (λ wrong. (kinds : List BaseType) →
+        popped wanted (on_top top kinds) ≡ Misses wrong) }
+{
+    match wanted {
+        Some(BaseType::Int) => match top {
+            Top::Int => Ok(()),
+            Top::Boolean => Err(CodeRefusalKind::OperandKind),
+            Top::Nothing => Err(CodeRefusalKind::OperandDepth),
+        },
+        Some(BaseType::Boolean) => match top {
+            Top::Boolean => Ok(()),
+            Top::Int => Err(CodeRefusalKind::OperandKind),
+            Top::Nothing => Err(CodeRefusalKind::OperandDepth),
+        },
+        None => match top {
+            Top::Int | Top::Boolean => Ok(()),
+            Top::Nothing => Err(CodeRefusalKind::OperandDepth),
+        },
+    }
+}
+
+// The number of a list that is there, where 0 stands for one that is not.
+fn list_or_none(number: u32) -> Option<u32>
+    ensures { result ≡ above_of number }
+{
+    if number == 0 { None } else { Some(number) }
 }
 
 /// A kind as a bit.
@@ -58,59 +121,38 @@ fn last_kind(bits: u64) -> BaseType
     }
 }
 
-// The greatest depth of links.
-fn greatest_of(links: &[Link]) -> u32
-    ensures { result ≡ greatest links.now }
-{
-    let mut deepest = 0;
-    for link in links {
-        deepest = link.depth.max(deepest);
-    }
-    deepest
-}
-
 // Notes the number of the list with one more operand of a kind on a list.
-fn note(
-    ints: &mut Vec<Option<u32>>,
-    booleans: &mut Vec<Option<u32>>,
-    kind: BaseType,
-    list: u32,
-    above: u32,
-)
-    requires ints { list < length ints.old.items }
-    requires booleans { list < length booleans.old.items }
-    ensures int { kind ≡ Int → (ints.new.items ≡ set ints.old.items list (Some above))
-        × (booleans.new.items ≡ booleans.old.items) }
-    ensures boolean { kind ≡ Boolean → (ints.new.items ≡ ints.old.items)
-        × (booleans.new.items ≡ set booleans.old.items list (Some above)) }
+fn note(nodes: &mut Vec<Node>, kind: BaseType, list: u32, above: u32)
+    requires { list < length nodes.old.items }
+    ensures { (d : TheNode) → nodes.new.items ≡ set nodes.old.items list
+        (noted kind above (slice_index_or nodes.old.items list d)) }
 {
     match kind {
-        BaseType::Int => ints[list as usize] = Some(above),
-        BaseType::Boolean => booleans[list as usize] = Some(above),
+        BaseType::Int => nodes[list as usize].int = above,
+        BaseType::Boolean => nodes[list as usize].boolean = above,
     }
 }
 
 /// Lists of kinds, each of which is kept once and goes by a number. The list 0 is empty.
 #[derive(Debug, Drop)]
 pub struct Operands {
-    // The list with the number n + 1 is the link n.
-    links: Vec<Link>,
-    // For each list that with an int on it, and that with a boolean on it, if it is there.
-    ints: Vec<Option<u32>>,
-    booleans: Vec<Option<u32>>,
+    // The node of each list.
+    nodes: Vec<Node>,
+    // How many operands the longest list has.
+    deepest: u32,
 }
 
 impl Model for Operands {
-    ghost use Rattle.verifier.specs.Operands.{IsShared, spelled};
+    ghost use Rattle.verifier.specs.Operands.{IsShared, booleans_of, ints_of, spelled};
     ghost use Rattle.common.specs.declared.base_type.BaseType.{BaseType};
-    ghost use Rattle.std.specs.Prelude.{List, [], ◌∷◌};
+    ghost use Rattle.std.specs.Prelude.{List, []};
 
     ghost Value = { List (List BaseType) };
 
-    ghost view = { λ o. spelled ([] ∷ []) o.links.items };
+    ghost view = { λ o. spelled [] o.nodes.items };
 
-    ghost invariant = { λ o. IsShared (spelled ([] ∷ []) o.links.items) o.links.items o.ints.items
-        o.booleans.items };
+    ghost invariant = { λ o. IsShared (spelled [] o.nodes.items) o.nodes.items (ints_of o.nodes.items)
+        (booleans_of o.nodes.items) o.deepest };
 }
 
 impl Operands {
@@ -118,27 +160,18 @@ impl Operands {
     pub fn new(alloc: Global) -> Result<Operands, AllocError>
         ensures { IfOk result (λ o. o ≡ [] ∷ []) }
     {
-        let links = Vec::with_capacity(alloc, FEW)?;
-        let mut ints = Vec::with_capacity(alloc, FEW)?;
-        let mut booleans = Vec::with_capacity(alloc, FEW)?;
-        ints.push_reserved(None);
-        booleans.push_reserved(None);
-        Ok(Operands {
-            links,
-            ints,
-            booleans,
-        })
+        let mut nodes = Vec::with_capacity(alloc, FEW)?;
+        nodes.push_reserved(EMPTY);
+        Ok(Operands { nodes, deepest: 0 })
     }
 
     /// The empty list alone again.
     pub fn restart(&mut self)
         ensures { self.new ≡ [] ∷ [] }
     {
-        self.links.clear();
-        self.ints.clear();
-        self.booleans.clear();
-        self.ints.push_reserved(None);
-        self.booleans.push_reserved(None);
+        self.nodes.clear();
+        self.nodes.push_reserved(EMPTY);
+        self.deepest = 0;
     }
 
     /// The list with one more operand on it.
@@ -166,9 +199,10 @@ impl Operands {
         ensures none { IfNone result ((k : ℕ) → k < length self.now → list_of self.now k
             ≢ kind ∷ list_of self.now list) }
     {
+        let node = &self.nodes[list as usize];
         match kind {
-            BaseType::Int => self.ints[list as usize],
-            BaseType::Boolean => self.booleans[list as usize],
+            BaseType::Int => list_or_none(node.int),
+            BaseType::Boolean => list_or_none(node.boolean),
         }
     }
 
@@ -186,41 +220,23 @@ impl Operands {
         ensures alone { OnOk result ((k : ℕ) → length self.old ≤ k → k < length self.new →
             list_of self.new k ≡ kind ∷ list_of self.old list) }
     {
-        let above = self.links.len() as u32 + 1;
-        let depth = self.depth(list) + 1;
-        let bits = bits_with(self.bits(list), kind);
+        let above = self.nodes.len() as u32;
+        let node = self.nodes[list as usize];
+        let depth = node.depth + 1;
+        let bits = bits_with(node.bits, kind);
         let skip = self.skip_with(list);
-        self.ints.push(None)?;
-        if let Err(fault) = self.booleans.push(None) {
-            self.ints.pop();
-            return Err(fault.into());
-        }
-        if let Err(fault) = self.links.push(Link {
-            kind,
+        self.nodes.push(Node {
+            top: top_of(kind),
             below: list,
             depth,
-            bits,
             skip,
-        }) {
-            self.ints.pop();
-            self.booleans.pop();
-            return Err(fault.into());
-        }
-        note(&mut self.ints, &mut self.booleans, kind, list, above);
+            bits,
+            int: 0,
+            boolean: 0,
+        })?;
+        note(&mut self.nodes, kind, list, above);
+        self.deepest = self.deepest.max(depth);
         Ok(above)
-    }
-
-    // The kinds of the topmost 64 operands as bits.
-    fn bits(&self, list: u32) -> u64
-        requires { list < length self.now }
-        ensures { result ≡ packed 64 (list_of self.now list) }
-    {
-        let _ = &self.links;
-        if list == 0 {
-            0
-        } else {
-            self.links[list as usize - 1].bits
-        }
     }
 
     // The list below the topmost 64 operands, where one more operand is on a list.
@@ -229,15 +245,11 @@ impl Operands {
         ensures there { result < length self.now }
         ensures skip { list_of self.now result ≡ drop 63 (list_of self.now list) }
     {
-        let _ = &self.links;
-        if list == 0 {
+        let node = self.nodes[list as usize];
+        if node.depth < 64 {
             return 0;
         }
-        let link = self.links[list as usize - 1];
-        if link.depth < 64 {
-            return 0;
-        }
-        match self.find_longer(link.skip, last_kind(link.bits)) {
+        match self.find_longer(node.skip, last_kind(node.bits)) {
             Some(skip) => skip,
             None => unreachable!(),
         }
@@ -252,21 +264,9 @@ impl Operands {
         ensures rejected { IfErr result (λ kind.
             popped wanted (list_of self.now list) ≡ Misses kind) }
     {
-        let _ = &self.links;
-        if list == 0 {
-            return Err(CodeRefusalKind::OperandDepth);
-        }
-        let link = self.links[list as usize - 1];
-        match wanted {
-            None => Ok(link.below),
-            Some(kind) => {
-                if kind == link.kind {
-                    Ok(link.below)
-                } else {
-                    Err(CodeRefusalKind::OperandKind)
-                }
-            }
-        }
+        let node = &self.nodes[list as usize];
+        take_top(wanted, node.top)?;
+        Ok(node.below)
     }
 
     /// Takes operands of some kinds off a list, the first one from the top.
@@ -293,13 +293,9 @@ impl Operands {
             × ((block ≡ packed 64 (list_of self.now list))
             × (list_of self.now r ≡ drop 64 (list_of self.now list)))) }
     {
-        let _ = &self.links;
-        if list == 0 {
-            return None;
-        }
-        let link = self.links[list as usize - 1];
-        if link.depth >= 64 && link.bits == block {
-            Some(link.skip)
+        let node = &self.nodes[list as usize];
+        if node.depth >= 64 && node.bits == block {
+            Some(node.skip)
         } else {
             None
         }
@@ -332,12 +328,7 @@ impl Operands {
         ensures value { result ≡ length (list_of self.now list) }
         ensures few { result ≤ list }
     {
-        let _ = &self.links;
-        if list == 0 {
-            0
-        } else {
-            self.links[list as usize - 1].depth
-        }
+        self.nodes[list as usize].depth
     }
 
     /// How many operands the longest list has.
@@ -345,7 +336,7 @@ impl Operands {
         ensures bounds { (k : ℕ) → k < length self.now → length (list_of self.now k) ≤ result }
         ensures there { (k : ℕ) × ((k < length self.now) × (length (list_of self.now k) ≡ result)) }
     {
-        greatest_of(self.links.as_slice())
+        self.deepest
     }
 
     /// Whether two lists are the same, or else what is wrong where they meet.
@@ -357,7 +348,7 @@ impl Operands {
         ensures rejected { IfErr result (λ kind.
             kind ≡ between (list_of self.now list) (list_of self.now other)) }
     {
-        let _ = &self.links;
+        let _ = &self.nodes;
         if list == other {
             Ok(())
         } else if self.depth(list) == self.depth(other) {

@@ -7,7 +7,7 @@ ghost use Rattle.common.specs.declared.base_type.BaseType.{BaseType};
 ghost use Rattle.common.specs.Answers.{IfRefused};
 ghost use Rattle.common.specs.declared.fault.OrNoMemory.TheVariants.{Refused};
 ghost use Rattle.std.specs.List.{Contains};
-ghost use Rattle.std.specs.Prelude.{List, Some, false, is_some, slice_get, true, ℕ, [], ◌≡◌, ◌+◌, ◌<◌, ◌≤◌, ◌^◌, ◌∷◌, IfErr, IfOk, OnOk, length};
+ghost use Rattle.std.specs.Prelude.{List, Some, false, is_some, slice_get, true, ℕ, [], ◌≡◌, ◌+◌, ◌<◌, ◌≤◌, ◌^◌, ◌∷◌, IfErr, IfNone, IfOk, OnOk, length};
 ghost use Rattle.modules.specs.Targets as targets;
 ghost use Rattle.verifier.specs.Flow.{FlowsWell};
 ghost use Rattle.verifier.specs.Depth.{IsGreatestDepth};
@@ -381,48 +381,24 @@ impl ReachedOffsets {
         self.visit(body, placed, coverage, listed, instruction)
     }
 
-    // Looks at an offset that has a list, and at those to which control goes straight on from there. It is not inlined, so that the
-    // loop has all registers for itself.
-    #[inline(never)]
-    fn follow(
-        &mut self,
-        body: &IndexedProcedure,
-        placed: &[Instruction],
-        coverage: &mut Coverage,
-        listed: &ListedOffset,
-    ) -> Result<(), FlowFault>
-        requires placed { placed.now ≡ positioned body.now.procedure.now.code }
-        requires searching { IsSearching body.now.program.now body.now.procedure.now self.old
-            (listed.now.at ∷ []) }
-        requires there { HasInstruction body.now.procedure.now self.old listed.now.at }
-        requires listed { IsListed body.now.procedure.now self.old listed.now }
-        requires room { length self.old.operands + left self.old < 2 ^ 32 }
-        requires boundaries { KeepsBoundaries body.now.procedure.now }
-        requires waiting { IsWaiting body.now.procedure.now coverage.old self.old }
-        requires body { IsSearchableBody body.now }
-        ensures accepted { OnOk result (IsSearching body.now.program.now body.now.procedure.now
-            self.new []) }
-        ensures waiting { OnOk result (IsWaiting body.now.procedure.now coverage.new self.new) }
-        ensures left { OnOk result (left self.new ≤ left self.old) }
-        ensures few { OnOk result (length self.new.operands + left self.new ≤ length
-            self.old.operands + left self.old + 1) }
-        ensures rejected { IfErr result (IfRefused
-            (IsOperandFlowRefusal body.now.program.now body.now.procedure.now)) }
+    // What is to be looked at next: the offset to which control goes straight on, or else the one that came last of those that wait.
+    fn take_next(&mut self, next: Option<ListedOffset>) -> Option<ListedOffset>
+        ensures next { (m : ModuleContents) (p : ProcedureContents) → IsSearchingNext m p self.old next
+            → IsSearchingNext m p self.new result }
+        ensures none { IfNone result (self.new.work ≡ []) }
+        ensures left { left self.new + count result ≤ left self.old + count next }
+        ensures operands { self.new.operands ≡ self.old.operands }
+        ensures shapes { self.new.shapes ≡ self.old.shapes }
     {
-        let code = body.procedure.code();
-        // Field by field, so that each has a register of its own.
-        let mut next = Some(ListedOffset {
-            at: listed.at,
-            number: listed.number,
-            list: listed.list,
-        });
-        while let Some(listed) = next {
-            next = self.look(body, placed, code, coverage, listed)?;
+        match next {
+            Some(_) => next,
+            None => self.work.pop(),
         }
-        Ok(())
     }
 
-    // Looks at each offset that waits, until none does.
+    // Looks at each offset that waits, and at those to which control goes straight on from there, until none waits. It is not inlined, so
+    // that the loop has all registers for itself.
+    #[inline(never)]
     fn run(
         &mut self,
         body: &IndexedProcedure,
@@ -441,8 +417,11 @@ impl ReachedOffsets {
         ensures rejected { IfErr result (IfRefused
             (IsOperandFlowRefusal body.now.program.now body.now.procedure.now)) }
     {
-        while let Some(listed) = self.work.pop() {
-            self.follow(body, placed, coverage, &listed)?;
+        let code = body.procedure.code();
+        let mut next = self.take_next(None);
+        while let Some(listed) = next {
+            let after = self.look(body, placed, code, coverage, listed)?;
+            next = self.take_next(after);
         }
         Ok(())
     }

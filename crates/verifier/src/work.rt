@@ -67,6 +67,7 @@ impl Work {
     pub(crate) fn pop(&mut self) -> Option<ListedOffset>
         ensures some { IfSome result (λ offset. self.old ≡ self.new ++ offset ∷ []) }
         ensures none { IfNone result (self.old ≡ []) }
+        ensures empty { IfNone result (self.new ≡ []) }
     {
         self.offsets.pop()
     }

@@ -1,25 +1,50 @@
-use Rattle.std.proofs.Common.{arith}
+use Rattle.std.proofs.Common.{rules, ◌≡◌, ◌≤◌, length, arith, refl}
 use Rattle.bytecode.proofs.Widths.{most_few, most_goes_on, most_rest}
 use Rattle.bytecode.proofs.code.read_most.Goals as goal
+use Rattle.bytecode.proofs.code.read_most.Goals.{then-len-capacity+in_ok-code, else-len-capacity, then-len-capacity-2+in_ok-code-2, else-len-capacity-2}
 
 pub loop-front-preserved-in-Some : goal.loop-front-preserved-in-Some
 loop-front-preserved-in-Some c =
     let v = c.loop-front.invariant in
+    let same : c.if-len-capacity.code.items ≡ c.loop-front.code.items = elim c.if-len-capacity.branch [
+      | then-len-capacity+in_ok-code w ↦ rw w.code-is w.in_ok-code.ensures.same
+      | else-len-capacity w ↦ rw w.code-is refl
+    ] in
     let wide = c.in-Some.ensures.width in
     let long = c.loop-front-test.true in
     record {
-      goes_on = rw (c.push_reserved.ensures.items, c.in_ok-make_room.ensures.same) (most_goes_on c.args.version 5 c.args.code.now.items c.loop-front.code.items c.args.bytes.now c.loop-front.front.now c.in-Some.next (omega arith) long wide v.few (c.in-Some.ensures.gives c.args.version) v.goes_on);
-      few = rw (c.push_reserved.ensures.items, c.in_ok-make_room.ensures.same) (most_few c.args.version 5 c.args.code.now.items c.loop-front.code.items c.args.bytes.now c.loop-front.front.now c.in-Some.next (omega arith) long wide v.few);
-      rest = most_rest c.args.version 5 c.args.code.now.items c.loop-front.code.items c.args.bytes.now c.loop-front.front.now c.in-Some.next (omega arith) long wide v.few v.rest;
+      goes_on = rw (c.push_reserved.ensures.items, same) (most_goes_on c.args.version 5 c.args.before.items c.loop-front.code.items c.args.bytes.now c.loop-front.front.now c.in-Some.next (omega arith) long wide v.few (c.in-Some.ensures.gives c.args.version) v.goes_on);
+      few = rw (c.push_reserved.ensures.items, same) (most_few c.args.version 5 c.args.before.items c.loop-front.code.items c.args.bytes.now c.loop-front.front.now c.in-Some.next (omega arith) long wide v.few);
+      rest = most_rest c.args.version 5 c.args.before.items c.loop-front.code.items c.args.bytes.now c.loop-front.front.now c.in-Some.next (omega arith) long wide v.few v.rest;
     }
 
 pub loop-front-preserved : goal.loop-front-preserved
 loop-front-preserved c =
     let v = c.loop-front.invariant in
+    let same : c.if-len-capacity.code.items ≡ c.loop-front.code.items = elim c.if-len-capacity.branch [
+      | then-len-capacity+in_ok-code w ↦ rw w.code-is w.in_ok-code.ensures.same
+      | else-len-capacity w ↦ rw w.code-is refl
+    ] in
     let next = c.in-Some-read_plain.next in
     let wide = c.in-Some-read_plain.ensures.width in
     record {
-      goes_on = rw (c.push_reserved-in-Some-read_plain.ensures.items, c.in_ok-make_room.ensures.same) (most_goes_on c.args.version 1 c.args.code.now.items c.loop-front.code.items c.args.bytes.now c.loop-front.front.now next (omega arith) (omega (arith, c.loop-front-test.true)) wide v.few c.in-Some-read_plain.ensures.gives v.goes_on);
-      few = rw (c.push_reserved-in-Some-read_plain.ensures.items, c.in_ok-make_room.ensures.same) (most_few c.args.version 1 c.args.code.now.items c.loop-front.code.items c.args.bytes.now c.loop-front.front.now next (omega arith) (omega (arith, c.loop-front-test.true)) wide v.few);
-      rest = most_rest c.args.version 1 c.args.code.now.items c.loop-front.code.items c.args.bytes.now c.loop-front.front.now next (omega arith) (omega (arith, c.loop-front-test.true)) wide v.few v.rest;
+      goes_on = rw (c.push_reserved-in-Some-read_plain.ensures.items, same) (most_goes_on c.args.version 1 c.args.before.items c.loop-front.code.items c.args.bytes.now c.loop-front.front.now next (omega arith) (omega (arith, c.loop-front-test.true)) wide v.few c.in-Some-read_plain.ensures.gives v.goes_on);
+      few = rw (c.push_reserved-in-Some-read_plain.ensures.items, same) (most_few c.args.version 1 c.args.before.items c.loop-front.code.items c.args.bytes.now c.loop-front.front.now next (omega arith) (omega (arith, c.loop-front-test.true)) wide v.few);
+      rest = most_rest c.args.version 1 c.args.before.items c.loop-front.code.items c.args.bytes.now c.loop-front.front.now next (omega arith) (omega (arith, c.loop-front-test.true)) wide v.few v.rest;
+    }
+
+pub loop-front-2-preserved : goal.loop-front-2-preserved
+loop-front-2-preserved c =
+    let v = c.loop-front-2.invariant in
+    let same : c.if-len-capacity-2.code.items ≡ c.loop-front-2.code.items = elim c.if-len-capacity-2.branch [
+      | then-len-capacity-2+in_ok-code-2 w ↦ rw w.code-is w.in_ok-code-2.ensures.same
+      | else-len-capacity-2 w ↦ rw w.code-is refl
+    ] in
+    let next = c.in-Some-read_plain-2.next in
+    let wide = c.in-Some-read_plain-2.ensures.width in
+    let long : 1 ≤ length c.loop-front-2.front.now = search rules in
+    record {
+      goes_on = rw (c.push_reserved-in-loop-front-2.ensures.items, same) (most_goes_on c.args.version 1 c.args.before.items c.loop-front-2.code.items c.args.bytes.now c.loop-front-2.front.now next (omega arith) long wide v.few c.in-Some-read_plain-2.ensures.gives v.goes_on);
+      few = rw (c.push_reserved-in-loop-front-2.ensures.items, same) (most_few c.args.version 1 c.args.before.items c.loop-front-2.code.items c.args.bytes.now c.loop-front-2.front.now next (omega arith) long wide v.few);
+      rest = most_rest c.args.version 1 c.args.before.items c.loop-front-2.code.items c.args.bytes.now c.loop-front-2.front.now next (omega arith) long wide v.few v.rest;
     }

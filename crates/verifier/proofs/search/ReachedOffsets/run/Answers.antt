@@ -1,36 +1,44 @@
-use Rattle.std.proofs.Common.{◌∷◌, [], length, length-append, refl, ap, arith}
+use Rattle.std.proofs.Common.{◌≡◌, [], length, ap, subst, ◌∙◌, arith}
+use Rattle.std.specs.Prelude.{IfNone}
+use Rattle.verifier.specs.Search.{IsSearchingNext, count}
 use Rattle.verifier.proofs.Depth.{run_longest}
-use Rattle.verifier.proofs.Reaching.{taken, taken_instruction, taken_listed, search_finished, waiting_kept}
+use Rattle.verifier.proofs.Reaching.{search_finished, table_same, waiting_kept}
 use Rattle.verifier.proofs.search.ReachedOffsets.run.Goals as goal
 
-pub follow-requires-clause-searching : goal.follow-requires-clause-searching
-follow-requires-clause-searching c = taken c.args.body.now.program.now c.args.body.now.procedure.now c.loop-listed.self _ c.in-Some.listed c.loop-listed.invariant.searching refl refl c.in-Some.ensures.some
+pub look-requires-clause-searching : goal.look-requires-clause-searching
+look-requires-clause-searching c = (subst (IsSearchingNext c.args.body.now.program.now c.args.body.now.procedure.now c.loop-next.self) c.in-Some.is c.loop-next.invariant.next).0
 
-pub follow-requires-clause-there : goal.follow-requires-clause-there
-follow-requires-clause-there c = taken_instruction c.args.body.now.program.now c.args.body.now.procedure.now c.loop-listed.self _ c.in-Some.listed c.loop-listed.invariant.searching refl refl c.in-Some.ensures.some
+pub look-requires-clause-there : goal.look-requires-clause-there
+look-requires-clause-there c = (subst (IsSearchingNext c.args.body.now.program.now c.args.body.now.procedure.now c.loop-next.self) c.in-Some.is c.loop-next.invariant.next).1.0
 
-pub follow-requires-clause-listed : goal.follow-requires-clause-listed
-follow-requires-clause-listed c = taken_listed c.args.body.now.program.now c.args.body.now.procedure.now c.loop-listed.self _ c.in-Some.listed c.loop-listed.invariant.searching refl refl c.in-Some.ensures.some
+pub look-requires-clause-listed : goal.look-requires-clause-listed
+look-requires-clause-listed c = (subst (IsSearchingNext c.args.body.now.program.now c.args.body.now.procedure.now c.loop-next.self) c.in-Some.is c.loop-next.invariant.next).1.1
+
+pub look-requires-clause-room : goal.look-requires-clause-room
+look-requires-clause-room c = omega (arith, c.loop-next.invariant.room, ap count c.in-Some.is)
+
+pub loop-next-preserved : goal.loop-next-preserved
+loop-next-preserved c =
+    let m = c.args.body.now.program.now in
+    let p = c.args.body.now.procedure.now in
+    let taken = c.take_next-next-in-Some.ensures in
+    let looked = c.in_ok-after.ensures in
+    record {
+      next = taken.next m p looked.next;
+      last = taken.none;
+      waiting = waiting_kept p c.look.new.coverage c.look.new.self c.take_next-next-in-Some.new.self (λ offset kinds has. table_same p c.look.new.self c.take_next-next-in-Some.new.self taken.operands taken.shapes offset ∙ has) looked.waiting;
+      room = omega (arith, c.loop-next.invariant.room, ap count c.in-Some.is, looked.left, looked.few, ap length taken.operands, taken.left);
+    }
 
 pub returns-clause-accepted : goal.returns-clause-accepted
-returns-clause-accepted c = search_finished c.args.body.now.program.now c.args.body.now.procedure.now c.loop-listed.self c.loop-listed.invariant.searching c.in_default.ensures.none
+returns-clause-accepted c =
+    search_finished c.args.body.now.program.now c.args.body.now.procedure.now c.loop-next.self
+    (subst (IsSearchingNext c.args.body.now.program.now c.args.body.now.procedure.now c.loop-next.self) c.in_default.is c.loop-next.invariant.next)
+    (subst (λ o. IfNone o (c.loop-next.self.work ≡ [])) c.in_default.is c.loop-next.invariant.last)
 
 pub returns-clause-longest : goal.returns-clause-longest
 returns-clause-longest c =
-    run_longest c.args.body.now.program.now c.args.body.now.procedure.now c.loop-listed.self c.loop-listed.invariant.searching (ap length c.in_default.ensures.none)
-
-pub follow-requires-clause-waiting : goal.follow-requires-clause-waiting
-follow-requires-clause-waiting c = waiting_kept c.args.body.now.procedure.now c.loop-listed.coverage c.loop-listed.self _ (λ offset kinds has. has) c.loop-listed.invariant.waiting
-
-pub follow-requires-clause-room : goal.follow-requires-clause-room
-follow-requires-clause-room c = omega (arith, c.loop-listed.invariant.room, ap length c.in-Some.ensures.some, length-append c.pop.new.self (c.in-Some.listed ∷ []))
-
-pub loop-listed-preserved : goal.loop-listed-preserved
-loop-listed-preserved c = record {
-  searching = c.in_ok-follow.ensures.accepted;
-  waiting = c.in_ok-follow.ensures.waiting;
-  room = omega (arith, c.loop-listed.invariant.room, c.in_ok-follow.ensures.few, ap length c.in-Some.ensures.some, length-append c.pop.new.self (c.in-Some.listed ∷ []));
-}
-
-pub loop-listed-smaller : goal.loop-listed-smaller
-loop-listed-smaller c = omega (arith, c.in_ok-follow.ensures.left, ap length c.in-Some.ensures.some, length-append c.pop.new.self (c.in-Some.listed ∷ []))
+    let empty : c.loop-next.self.work ≡ [] = subst (λ o. IfNone o (c.loop-next.self.work ≡ [])) c.in_default.is c.loop-next.invariant.last in
+    run_longest c.args.body.now.program.now c.args.body.now.procedure.now c.loop-next.self
+    (subst (IsSearchingNext c.args.body.now.program.now c.args.body.now.procedure.now c.loop-next.self) c.in_default.is c.loop-next.invariant.next)
+    (ap length empty)

@@ -1,13 +1,15 @@
-use Rattle.std.proofs.Common.{◌≤◌, ◌+◌, ◌^◌, [], length}
-use Rattle.verifier.specs.Search.{IsSearching, IsWaiting, left}
+use Rattle.std.proofs.Common.{◌≡◌, ◌≤◌, ◌+◌, ◌^◌, [], length}
+use Rattle.std.specs.Prelude.{IfNone}
+use Rattle.verifier.specs.Search.{IsSearchingNext, IsWaiting, count, left}
 use Rattle.verifier.proofs.search.ReachedOffsets.run.Given as goal
 
-abbrev pub invariant-loop-listed : goal.invariant-loop-listed
-invariant-loop-listed l = record {
-  searching : IsSearching l.body.program.now l.body.procedure.now l.self [];
+abbrev pub invariant-loop-next : goal.invariant-loop-next
+invariant-loop-next l = record {
+  next : IsSearchingNext l.body.program.now l.body.procedure.now l.self l.next;
+  last : IfNone l.next (l.self.work ≡ []);
   waiting : IsWaiting l.body.procedure.now l.coverage l.self;
-  room : length l.self.operands + left l.self ≤ 2 ^ 32;
+  room : length l.self.operands + left l.self + count l.next ≤ 2 ^ 32;
 }
 
-abbrev pub decreases-loop-listed : goal.decreases-loop-listed
-decreases-loop-listed l = left l.self
+abbrev pub decreases-loop-next : goal.decreases-loop-next
+decreases-loop-next l = left l.self + count l.next
