@@ -1,9 +1,8 @@
 -- The names of the items of a tree that tokens spell are texts of tokens.
+use Prim.Native.String.{String}
 use Rattle.std.proofs.Common.{ℕ, List, [], ◌∷◌, sym, subst, inl, inr}
 use Rattle.std.specs.Prelude.{All, IsUtf8}
 use Rattle.std.proofs.lemmas.List.Elements.{All-nil, All-cons}
-use Rattle.lexer.specs.declared.token.Kind.{Kind}
-use Rattle.lexer.specs.declared.token.Kind.TheVariants as kinds
 use Rattle.lexer.specs.Terminal.{Terminal}
 use Rattle.syntax.specs.Form.{Form, many, ◌·◌}
 use Rattle.syntax.specs.Grammar.{SpellsProgram, at, ◌◂◌, base, name, label, direction, channel, exception, global_value, global, written_result, procedure, item, program, optional, some, parameter}
@@ -26,8 +25,8 @@ module _ (room : ℕ) where
   abbrev Having : {A : Type 0} → Form A → A → ℕ → Type 0
   Having F tree k = Holds IsText Nothing room F tree k
 
-  before : {A : Type 0} (F : Form A) (kind : Kind) (tree : A) (k : ℕ) → Having (F ◂ kind) tree k → (i : ℕ) × Having F tree i
-  before F kind tree k h = let both = h.1 in (both.0, subst (λ t. Having F t both.0) (sym h.2) both.2)
+  before : {A : Type 0} (F : Form A) (text : String) (tree : A) (k : ℕ) → Having (F ◂ text) tree k → (i : ℕ) × Having F tree i
+  before F text tree k h = let both = h.1 in (both.0, subst (λ t. Having F t both.0) (sym h.2) both.2)
 
   name_text : (tree : NameTree) (k : ℕ) → Having name tree k → IsUtf8 tree.text
   unfolding name
@@ -36,21 +35,21 @@ module _ (room : ℕ) where
   channel_named : (tree : ItemTree) (k : ℕ) → Having channel tree k → IsNamed tree
   unfolding channel
   channel_named tree k h =
-      let line = before (direction · label · name) kinds.Semicolon h.0 k h.1 in
+      let line = before (direction · label · name) ";" h.0 k h.1 in
       let both = line.1 in
       subst IsNamed (sym h.2) (name_text h.0.1 both.1 both.3)
 
   exception_named : (tree : ItemTree) (k : ℕ) → Having exception tree k → IsNamed tree
   unfolding exception
   exception_named tree k h =
-      let line = before (at kinds.Exception · name) kinds.Semicolon h.0 k h.1 in
+      let line = before (at "exception" · name) ";" h.0 k h.1 in
       let both = line.1 in
       subst IsNamed (sym h.2) (name_text h.0.1 both.1 both.3)
 
   global_named : (tree : ItemTree) (k : ℕ) → Having global tree k → IsNamed tree
   unfolding global
   global_named tree k h =
-      let line = before (at kinds.Global · base · label · name · global_value) kinds.Semicolon h.0 k h.1 in
+      let line = before (at "global" · base · label · name · global_value) ";" h.0 k h.1 in
       let both = line.1 in
       let front = both.2 in
       subst IsNamed (sym h.2) (name_text h.0.0.1 front.1 front.3)
@@ -60,9 +59,9 @@ module _ (room : ℕ) where
   procedure_named tree k h =
       let throwing = h.1.2 in
       let ending = throwing.2 in
-      let close = before (written_result · name · optional label ◂ kinds.OpenParenthesis · some kinds.Comma parameter) kinds.CloseParenthesis h.0.0.0.0 ending.0 ending.2 in
+      let close = before (written_result · name · optional label ◂ "(" · some "," parameter) ")" h.0.0.0.0 ending.0 ending.2 in
       let taking = close.1 in
-      let front = before (written_result · name · optional label) kinds.OpenParenthesis h.0.0.0.0.0 taking.0 taking.2 in
+      let front = before (written_result · name · optional label) "(" h.0.0.0.0.0 taking.0 taking.2 in
       let named = front.1.2 in
       subst IsNamed (sym h.2) (name_text h.0.0.0.0.0.0.1 named.1 named.3)
 
@@ -83,7 +82,7 @@ module _ (room : ℕ) where
   program_named : (tree : ProgramTree) (k : ℕ) → Having program tree k → HasUtf8Names tree
   unfolding program
   program_named tree k h =
-      let inner = before (many item) kinds.End h.0 k h.1 in
+      let inner = before (many item) "the end" h.0 k h.1 in
       subst HasUtf8Names (sym h.2) (items_named h.0 inner.0 inner.1)
 
 pub spelled_named : (tokens : List Terminal) (tree : ProgramTree) → SpellsProgram tokens tree → All IsText tokens → HasUtf8Names tree

@@ -21,3 +21,4 @@ pub mod WordJoins
 pub mod FourWords
 pub mod WordBits
 pub mod RowBits
+pub mod Zeros

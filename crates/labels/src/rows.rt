@@ -1,7 +1,7 @@
 //! Sets of numbers below a bound, a bit for each number.
 ghost use Rattle.labels.specs.Row.{FirstBeyond, Includes, has, union};
 ghost use Rattle.labels.specs.Words.{has_bit};
-ghost use Rattle.std.specs.Prelude.{Bool, IfOk, IsTrue, List, [], false, length, replicate, set, true, ℕ, ◌&&◌, ◌*◌, ◌+◌, ◌/◌, ◌<◌, ◌||◌, ◌↔◌, ◌≡◌, ◌≢◌, ◌≤◌};
+ghost use Rattle.std.specs.Prelude.{Bool, IfOk, IsTrue, List, [], false, length, min, replicate, set, true, ℕ, ◌&&◌, ◌*◌, ◌+◌, ◌/◌, ◌<◌, ◌||◌, ◌↔◌, ◌≡◌, ◌≢◌, ◌≤◌};
 
 use crate::words::{
     covers_words, cut, first_bit, first_new, has_any_bit, has_bit, join_words, join_words_at,
@@ -41,7 +41,18 @@ impl Model for Row {
     ghost invariant = { IsStoredRow };
 }
 
-// This many words without bits. One is made at once: most rows have no more.
+// Words without bits, as many as are added at once.
+const NO_BITS: [u64; 64] = [0; 64];
+
+// Words without bits, this many of them or as many as are added at once.
+fn no_bits(count: usize) -> &'static [u64]
+    ensures zeros { result.now ≡ replicate (min count 64) 0 }
+{
+    &NO_BITS[..count.min(NO_BITS.len())]
+}
+
+// This many words without bits. One is made at once: most rows have no more. Of more, many are added at once.
+#[tactic(auto, using(crate::proofs::Zeros::zeros_more))]
 fn zero_words(alloc: Global, count: usize) -> Result<SmallVec<u64, 1>, AllocError>
     ensures { IfOk result (λ words. words.items ≡ replicate count 0) }
 {
@@ -50,7 +61,13 @@ fn zero_words(alloc: Global, count: usize) -> Result<SmallVec<u64, 1>, AllocErro
         words.push(0u64)?;
         return Ok(words);
     }
-    Ok(SmallVec::from_elem(alloc, 0u64, count)?)
+    let mut words = SmallVec::with_capacity(alloc, count)?;
+    let mut left = count;
+    while left > 0 {
+        words.extend_from_slice(no_bits(left))?;
+        left -= left.min(NO_BITS.len());
+    }
+    Ok(words)
 }
 
 impl Row {
@@ -64,6 +81,18 @@ impl Row {
     {
         let words = zero_words(alloc, n / 64 + 1)?;
         Ok(Row { n, words })
+    }
+
+    /// The same set once more.
+    ///
+    /// # Errors
+    ///
+    /// Memory ran out.
+    pub fn copy(&self, alloc: Global) -> Result<Row, AllocError>
+        ensures { IfOk result (λ row. row ≡ self.now) }
+    {
+        let words = SmallVec::from_slice(alloc, self.words.as_slice())?;
+        Ok(Row { n: self.n, words })
     }
 
     /// The bound that all numbers of the set are below.

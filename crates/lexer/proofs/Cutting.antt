@@ -5,8 +5,7 @@ use Rattle.lexer.specs.Terminal.{Terminal}
 use Rattle.lexer.specs.Lexeme.{Lexeme, Word, Gap, LargeLiteral, OpenComment}
 use Rattle.lexer.specs.Cut.{Cuts, Nothing, Token, Between, IsNextLexeme, IsRefusedFor, terminal_at, size}
 use Rattle.lexer.specs.Laws.{HasOneCut, IsNotCutAndRefused, TextsHaveOneRefusal}
-use Rattle.lexer.specs.declared.token.Kind.{Kind}
-use Rattle.lexer.specs.declared.token.Kind.TheVariants.{End}
+use Rattle.lexer.specs.TokenKind.{TokenKind, End}
 use Rattle.lexer.specs.declared.fault.LexRefusalKind.{LexRefusalKind}
 use Rattle.lexer.specs.declared.fault.LexRefusalKind.TheVariants.{NoToken, LiteralTooLarge, UnclosedComment}
 use Rattle.lexer.proofs.Fronts.{nonempty}
@@ -26,7 +25,7 @@ cuts_on start text tokens middle left others end rest (Between _ _ front l ts _ 
 
 -- no token and no gap begins the text
 pub record Halts (text : List ℕ) : Type 0 where
-  pub no_token : (kind : Kind) (front left : List ℕ) → IsNextLexeme text (Word kind) front left → ⊥
+  pub no_token : (kind : TokenKind) (front left : List ℕ) → IsNextLexeme text (Word kind) front left → ⊥
   pub no_gap : (front left : List ℕ) → IsNextLexeme text Gap front left → ⊥
 
 -- the end of a cut: its tokens, and where it ends
@@ -90,7 +89,7 @@ halts_nil = record {
 }
 
 -- a text that goes on with a refused lexeme goes on with no other
-halts_at : (text front rest : List ℕ) (lexeme : Lexeme) → ((kind : Kind) → lexeme ≡ Word kind → ⊥)
+halts_at : (text front rest : List ℕ) (lexeme : Lexeme) → ((kind : TokenKind) → lexeme ≡ Word kind → ⊥)
     → (lexeme ≡ Gap → ⊥) → IsNextLexeme text lexeme front rest → Halts text
 halts_at text front rest lexeme no_word no_gap next = record {
   no_token = λ kind back left other. no_word kind (one_next text front rest back left lexeme (Word kind) next other).0;

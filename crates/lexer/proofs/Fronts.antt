@@ -5,19 +5,22 @@ use Rattle.std.specs.Char.{is_ascii_digit, is_ascii_lowercase}
 use Rattle.std.specs.List.{list_all}
 use Rattle.std.specs.Prelude.{nat_le}
 use Rattle.std.specs.Str.Parse.{digits_value}
-use Rattle.lexer.specs.Words.{is_white_space, is_name, keyword_of, keywords}
+use Rattle.lexer.specs.KindOf.{kind_of, keyword_of, sign_of, keyword_rows, sign_rows}
+use Rattle.lexer.specs.TokenKind.{Name, Integer}
+use Rattle.lexer.specs.Words.{is_white_space, is_name, is_fixed}
 use Rattle.unicode_ident.specs.Ident.{is_xid_continue}
-use Rattle.lexer.specs.Lexeme.{Lexeme, Word, Gap, LargeLiteral, OpenComment, IsLexeme, Blank, LineComment, BlockComment, Unended, Keyword, Identifier, Literal, TooLarge, Sign, IsInLine, HasNoCommentEnd, IsNumeral, sign_of, signs}
+use Rattle.lexer.specs.Lexeme.{Lexeme, Word, Gap, LargeLiteral, OpenComment, IsLexeme, Blank, LineComment, BlockComment, Unended, FixedWord, Identifier, Literal, TooLarge, IsInLine, HasNoCommentEnd, IsNumeral}
 use Rattle.lexer.proofs.Closed.{IsClosed, closed_by}
 use Rattle.lexer.specs.declared.token.Kind.{Kind}
-use Rattle.lexer.specs.declared.token.Kind.TheVariants.{Slash, Name, Integer}
+use Rattle.lexer.specs.declared.token.Kind.TheVariants as kinds
+use Rattle.lexer.proofs.Fixed.{coded, is_keyword}
 use Rattle.lexer.proofs.Letters.{Class, White, Digit, Letter, Solidus, Other, class_of, class-White, class-Digit, class-Letter, class-Solidus, class-Other, is_sign_first, lowercase_begins, lowercase_continues}
 use Rattle.lexer.proofs.Tables.{found_passes}
 use Rattle.common.specs.declared.limits.TheConstants.{MAX_INTEGER}
 
 -- the kind of a word
 abbrev pub word_kind : List ℕ → Kind
-word_kind cs = unwrap_or (keyword_of cs) Name
+word_kind cs = unwrap_or (keyword_of cs) kinds.Name
 
 -- what an integer is
 abbrev pub literal_of : List ℕ → Lexeme
@@ -25,7 +28,7 @@ literal_of cs = cond (nat_le (digits_value 10 cs) MAX_INTEGER) (Word (Integer (d
 
 -- what follows a `/` in a lexeme
 pub data AfterSolidus : List ℕ → Lexeme → Type 0 where
-  Alone : AfterSolidus [] (Word Slash)
+  Alone : AfterSolidus [] (Word (kind_of kinds.Slash))
   Line : (body : List ℕ) → IsInLine body → AfterSolidus (47 ∷ body) Gap
   Block : (body : List ℕ) → IsClosed body → AfterSolidus (42 ∷ body) Gap
   Unclosed : (body : List ℕ) → HasNoCommentEnd body → AfterSolidus (42 ∷ body) OpenComment
@@ -34,9 +37,9 @@ pub data AfterSolidus : List ℕ → Lexeme → Type 0 where
 abbrev pub Front : Class → ℕ → List ℕ → Lexeme → Type 0
 Front White c cs lexeme = (lexeme ≡ Gap) × (cs ≡ [])
 Front Digit c cs lexeme = (lexeme ≡ literal_of (c ∷ cs)) × (list_all is_ascii_digit cs ≡ true)
-Front Letter c cs lexeme = (lexeme ≡ Word (word_kind (c ∷ cs))) × (list_all is_xid_continue cs ≡ true)
+Front Letter c cs lexeme = (lexeme ≡ Word (kind_of (word_kind (c ∷ cs)))) × (list_all is_xid_continue cs ≡ true)
 Front Solidus c cs lexeme = AfterSolidus cs lexeme
-Front Other c cs lexeme = (kind : Kind) × ((sign_of (c ∷ cs) ≡ Some kind) × ((lexeme ≡ Word kind) × (length cs ≤ 2)))
+Front Other c cs lexeme = (kind : Kind) × ((sign_of (c ∷ cs) ≡ Some kind) × ((lexeme ≡ Word (kind_of kind)) × (length cs ≤ 2)))
 
 -- of a class that is known
 known : (k : Class) (c : ℕ) (cs : List ℕ) (lexeme : Lexeme) → class_of c ≡ k → Front k c cs lexeme
@@ -55,15 +58,15 @@ lowercase_all (c ∷ cs) all =
     ap (λ b. b && list_all is_xid_continue cs) (lowercase_continues c first) ∙ lowercase_all cs others
 
 keyword_shape : (c : ℕ) (cs : List ℕ) (kind : Kind) → keyword_of (c ∷ cs) ≡ Some kind
-    → Front (class_of c) c cs (Word kind)
+    → Front (class_of c) c cs (Word (kind_of kind))
 unfolding lowercase_word
 keyword_shape c cs kind found =
-    let lower = found_passes lowercase_word keywords refl (c ∷ cs) kind found in
+    let lower = found_passes lowercase_word keyword_rows refl (c ∷ cs) kind found in
     let (first, others) = and_parts _ _ lower in
-    known Letter c cs (Word kind) (class-Letter c (lowercase_begins c first))
-    (ap (λ o. Word (unwrap_or o Name)) (sym found), lowercase_all cs others)
+    known Letter c cs (Word (kind_of kind)) (class-Letter c (lowercase_begins c first))
+    (ap (λ o. Word (kind_of (unwrap_or o kinds.Name))) (sym found), lowercase_all cs others)
 
-name_kind : (found : Option Kind) → not (is_some found) ≡ true → Name ≡ unwrap_or found Name
+name_kind : (found : Option Kind) → not (is_some found) ≡ true → kinds.Name ≡ unwrap_or found kinds.Name
 name_kind None free = refl
 name_kind (Some kind) free = absurd cc
 
@@ -71,7 +74,7 @@ name_shape : (c : ℕ) (cs : List ℕ) → is_name (c ∷ cs) ≡ true → Front
 name_shape c cs named =
     let (identifier, free) = and_parts _ _ named in
     let (first, others) = and_parts _ _ identifier in
-    known Letter c cs (Word Name) (class-Letter c first) (ap Word (name_kind (keyword_of (c ∷ cs)) free), others)
+    known Letter c cs (Word Name) (class-Letter c first) (ap (λ k. Word (kind_of k)) (name_kind (keyword_of (c ∷ cs)) (ap not (sym (is_keyword (c ∷ cs))) ∙ free)), others)
 
 literal_shape : (c : ℕ) (cs : List ℕ) (lexeme : Lexeme) → IsNumeral (c ∷ cs) → lexeme ≡ literal_of (c ∷ cs)
     → Front (class_of c) c cs lexeme
@@ -91,37 +94,37 @@ sign_word (c ∷ d ∷ e ∷ f ∷ cs) = false
 pub lone_sign : (c : ℕ) (kind : Kind) → sign_of (c ∷ []) ≡ Some kind → (c == 47) ≡ false → class_of c ≡ Other
 unfolding sign_word
 lone_sign c kind found other =
-    elim (or_cases _ _ (found_passes sign_word signs refl (c ∷ []) kind found)) [
+    elim (or_cases _ _ (found_passes sign_word sign_rows refl (c ∷ []) kind found)) [
       | inl first ↦ class-Other c first
       | inr solidus ↦ absurd (both_ways (c == 47) other solidus)
     ]
 
 -- a `/` that is a sign
-alone : (c : ℕ) (kind : Kind) → c ≡ 47 → sign_of (c ∷ []) ≡ Some kind → Front (class_of c) c [] (Word kind)
+alone : (c : ℕ) (kind : Kind) → c ≡ 47 → sign_of (c ∷ []) ≡ Some kind → Front (class_of c) c [] (Word (kind_of kind))
 alone c kind e found =
-    let slash : sign_of (47 ∷ []) ≡ Some Slash = refl in
+    let slash : sign_of (47 ∷ []) ≡ Some kinds.Slash = refl in
     let here : sign_of (47 ∷ []) ≡ Some kind = subst (λ x. sign_of (x ∷ []) ≡ Some kind) e found in
-    let both : Some Slash ≡ Some kind = sym slash ∙ here in
-    let same : Slash ≡ kind = cc in
-    known Solidus c [] (Word kind) (subst (λ x. class_of x ≡ Solidus) (sym e) class-Solidus)
-    (subst (λ k. AfterSolidus [] (Word k)) same Alone)
+    let both : Some kinds.Slash ≡ Some kind = sym slash ∙ here in
+    let same : kinds.Slash ≡ kind = cc in
+    known Solidus c [] (Word (kind_of kind)) (subst (λ x. class_of x ≡ Solidus) (sym e) class-Solidus)
+    (subst (λ k. AfterSolidus [] (Word (kind_of k))) same Alone)
 
 sign_shape : (c : ℕ) (cs : List ℕ) (kind : Kind) → sign_of (c ∷ cs) ≡ Some kind
-    → Front (class_of c) c cs (Word kind)
+    → Front (class_of c) c cs (Word (kind_of kind))
 unfolding sign_word
 sign_shape c [] kind found =
-    elim (or_cases _ _ (found_passes sign_word signs refl (c ∷ []) kind found)) [
-      | inl first ↦ known Other c [] (Word kind) (class-Other c first) (kind, (found, (refl, omega arith)))
+    elim (or_cases _ _ (found_passes sign_word sign_rows refl (c ∷ []) kind found)) [
+      | inl first ↦ known Other c [] (Word (kind_of kind)) (class-Other c first) (kind, (found, (refl, omega arith)))
       | inr solidus ↦ alone c kind (eqb-true c 47 solidus) found
     ]
 sign_shape c (d ∷ []) kind found =
-    let first = found_passes sign_word signs refl (c ∷ d ∷ []) kind found in
-    known Other c (d ∷ []) (Word kind) (class-Other c first) (kind, (found, (refl, omega arith)))
+    let first = found_passes sign_word sign_rows refl (c ∷ d ∷ []) kind found in
+    known Other c (d ∷ []) (Word (kind_of kind)) (class-Other c first) (kind, (found, (refl, omega arith)))
 sign_shape c (d ∷ e ∷ []) kind found =
-    let first = found_passes sign_word signs refl (c ∷ d ∷ e ∷ []) kind found in
-    known Other c (d ∷ e ∷ []) (Word kind) (class-Other c first) (kind, (found, (refl, omega arith)))
+    let first = found_passes sign_word sign_rows refl (c ∷ d ∷ e ∷ []) kind found in
+    known Other c (d ∷ e ∷ []) (Word (kind_of kind)) (class-Other c first) (kind, (found, (refl, omega arith)))
 sign_shape c (d ∷ e ∷ f ∷ cs) kind found =
-    let none : false ≡ true = found_passes sign_word signs refl (c ∷ d ∷ e ∷ f ∷ cs) kind found in
+    let none : false ≡ true = found_passes sign_word sign_rows refl (c ∷ d ∷ e ∷ f ∷ cs) kind found in
     absurd cc
 
 -- a lexeme that begins with `/`
@@ -143,8 +146,12 @@ shape lexeme text c cs (Blank d white) e =
 shape lexeme text c cs (LineComment body line) e = at_solidus c cs (47 ∷ body) Gap e (Line body line)
 shape lexeme text c cs (BlockComment body none) e = at_solidus c cs (42 ∷ (body ++ codes "*/")) Gap e (Block (body ++ codes "*/") (closed_by body none))
 shape lexeme text c cs (Unended body unclosed) e = at_solidus c cs (42 ∷ body) OpenComment e (Unclosed body unclosed)
-shape lexeme text c cs (Keyword word kind found) e =
-    keyword_shape c cs kind (subst (λ t. keyword_of t ≡ Some kind) e found)
+shape lexeme text c cs (FixedWord word fixed) e =
+    let one = coded word fixed in
+    subst (λ k. Front (class_of c) c cs (Word k)) one.is (elim one.found [
+      | inl found ↦ keyword_shape c cs one.kind (subst (λ t. keyword_of t ≡ Some one.kind) e found)
+      | inr found ↦ sign_shape c cs one.kind (subst (λ t. sign_of t ≡ Some one.kind) e found)
+    ])
 shape lexeme text c cs (Identifier word named) e = name_shape c cs (subst (λ t. is_name t ≡ true) e named)
 shape lexeme text c cs (Literal digits numeral small) e =
     literal_shape c cs _ (subst IsNumeral e numeral)
@@ -152,7 +159,6 @@ shape lexeme text c cs (Literal digits numeral small) e =
 shape lexeme text c cs (TooLarge digits numeral large) e =
     literal_shape c cs _ (subst IsNumeral e numeral)
     (sym (cond-false (nat_le (digits_value 10 digits) MAX_INTEGER) _ _ (lt-leb _ _ large)) ∙ ap literal_of e)
-shape lexeme text c cs (Sign sign kind found) e = sign_shape c cs kind (subst (λ t. sign_of t ≡ Some kind) e found)
 
 -- no lexeme is empty
 pub nonempty : (lexeme : Lexeme) (text : List ℕ) → IsLexeme lexeme text → text ≡ [] → ⊥
@@ -160,14 +166,11 @@ nonempty lexeme text (Blank d white) e = cc
 nonempty lexeme text (LineComment body line) e = cc
 nonempty lexeme text (BlockComment body closed) e = cc
 nonempty lexeme text (Unended body unclosed) e = cc
-nonempty lexeme text (Keyword word kind found) e =
-    let none : None ≡ Some kind = subst (λ t. keyword_of t ≡ Some kind) e found in
+nonempty lexeme text (FixedWord word fixed) e =
+    let none : false ≡ true = subst (λ t. is_fixed t ≡ true) e fixed in
     cc
 nonempty lexeme text (Identifier word named) e =
     let none : false ≡ true = subst (λ t. is_name t ≡ true) e named in
     cc
 nonempty lexeme text (Literal digits numeral small) e = let n = ap length e in let h = numeral.nonempty in omega arith
 nonempty lexeme text (TooLarge digits numeral large) e = let n = ap length e in let h = numeral.nonempty in omega arith
-nonempty lexeme text (Sign sign kind found) e =
-    let none : None ≡ Some kind = subst (λ t. sign_of t ≡ Some kind) e found in
-    cc

@@ -7,8 +7,9 @@ use Rattle.lexer.specs.Lexeme.{Lexeme, Word, Gap}
 use Rattle.lexer.specs.Cut.{Cuts, Nothing, Token, Between, IsNextLexeme, IsCut, IsTextRefused, terminal_at, size}
 use Rattle.lexer.specs.Scan.{Reads, after_run, lexeme_of, IsStuck}
 use Rattle.lexer.specs.Words.{is_white_space}
+use Rattle.lexer.specs.KindOf.{kind_of}
+use Rattle.lexer.specs.TokenKind.{End}
 use Rattle.lexer.specs.declared.token.Kind.{Kind}
-use Rattle.lexer.specs.declared.token.Kind.TheVariants.{End}
 use Rattle.common.specs.declared.refusal.RefusalAt.{RefusalAt}
 use Rattle.lexer.specs.declared.fault.LexRefusalKind.{LexRefusalKind}
 use Rattle.lexer.proofs.Cutting.{cuts_on}
@@ -130,18 +131,18 @@ blanks text rest left tokens ok tail_ok so_far e =
 pub token : (text rest left bytes : List ℕ) (tokens : List Terminal) (kind : Kind) → IsUtf8 rest → IsUtf8 left → IsUtf8 bytes
     → IsCutSoFar text rest tokens → Reads (chars rest) (Some kind) (chars left) → chars rest ≡ chars bytes ++ chars left
     → (added : Terminal)
-    → added ≡ record { kind = kind; text = bytes; start = length text - length rest; end = length text - length rest + length bytes }
+    → added ≡ record { kind = kind_of kind; text = bytes; start = length text - length rest; end = length text - length rest + length bytes }
     → GrowsBy text rest left (tokens ++ added ∷ [])
 token text rest left bytes tokens kind ok tail_ok bytes_ok so_far (front, next) parts added e =
-    let g = goes text rest left (Word kind) front so_far.within ok tail_ok next in
+    let g = goes text rest left (Word (kind_of kind)) front so_far.within ok tail_ok next in
     let here = length text - length rest in
     let same : chars bytes ≡ front = same_before (chars bytes) front (chars left) (sym parts ∙ next.text_is) in
     let spelled : encode_utf8_all front ≡ bytes = ap encode_utf8_all (sym same) ∙ encodes-chars bytes bytes_ok in
-    let terminal : terminal_at here kind front ≡ added =
-    ap (λ t. record { kind = kind; text = t; start = here; end = here + length t }) spelled ∙ sym e in
-    let step : Cuts here (chars rest) (terminal_at here kind front ∷ []) (length text - length left) (chars left) =
-    subst (λ k. Cuts here (chars rest) (terminal_at here kind front ∷ []) k (chars left)) g.place
-    (Token here (chars rest) kind front (chars left) [] (here + size front) (chars left) next (Nothing (here + size front) (chars left))) in
+    let terminal : terminal_at here (kind_of kind) front ≡ added =
+    ap (λ t. record { kind = kind_of kind; text = t; start = here; end = here + length t }) spelled ∙ sym e in
+    let step : Cuts here (chars rest) (terminal_at here (kind_of kind) front ∷ []) (length text - length left) (chars left) =
+    subst (λ k. Cuts here (chars rest) (terminal_at here (kind_of kind) front ∷ []) k (chars left)) g.place
+    (Token here (chars rest) (kind_of kind) front (chars left) [] (here + size front) (chars left) next (Nothing (here + size front) (chars left))) in
     let h = so_far.within in
     let s = g.shorter in
     record {

@@ -7,7 +7,7 @@ use Rattle.std.proofs.lemmas.Bool.{and_parts, not-true, cond-false}
 use Rattle.std.proofs.lemmas.Bool.Decides.{nat_tests}
 use Rattle.lexer.specs.declared.token.Kind.{Kind}
 use Rattle.lexer.specs.Scan.{has_front}
-use Rattle.lexer.specs.Words.{keywords, keyword_of}
+use Rattle.lexer.specs.KindOf.{keyword_rows, keyword_of}
 use Rattle.lexer.proofs.Signs.{head, unlike, none_found}
 
 -- no two rows have words of one length and first byte
@@ -46,9 +46,9 @@ found text (row ∷ rows) apart = by (has_front (length text) (head text) row.0)
 
 -- the keyword that a text of this length and first byte may be
 pub kept : (text : List ℕ) (count first : ℕ) → length text ≡ count → get_or text 0 0 ≡ first
-    → keyword_of text ≡ kind_if text (lookup_entry (has_front count first) keywords)
+    → keyword_of text ≡ kind_if text (lookup_entry (has_front count first) keyword_rows)
 unfolding are_apart
 kept text count first n f =
-    found text keywords refl
-    ∙ (ap (λ k. kind_if text (lookup_entry (has_front k (head text)) keywords)) n
-    ∙ ap (λ h. kind_if text (lookup_entry (has_front count h) keywords)) f)
+    found text keyword_rows refl
+    ∙ (ap (λ k. kind_if text (lookup_entry (has_front k (head text)) keyword_rows)) n
+    ∙ ap (λ h. kind_if text (lookup_entry (has_front count h) keyword_rows)) f)

@@ -1,6 +1,7 @@
 pub mod Runs
 pub mod Tables
 pub mod Closed
+pub mod Fixed
 pub mod Fronts
 pub mod Letters
 pub mod Nexts

@@ -1,25 +1,26 @@
 -- What follows of the tokens of a cut.
-use Rattle.std.proofs.Common.{◌≡◌, ◌≢◌, ◌⊎◌, ℕ, ◌+◌, ◌-◌, ◌≤◌, Bool, true, false, List, [], ◌∷◌, ◌++◌, Some, length, take, drop, refl, sym, ap, subst, ◌∙◌, arith, inl, inr, append_assoc, append-nil, length-append}
-use Rattle.std.proofs.lemmas.Bool.{and_parts, and_from, cases_Bool, cond-true, cond-false}
+use Rattle.std.proofs.Common.{◌≡◌, ◌≢◌, ℕ, ◌+◌, ◌-◌, ◌≤◌, true, List, [], ◌∷◌, ◌++◌, length, take, drop, refl, sym, ap, subst, ◌∙◌, arith, inl, inr, append_assoc, append-nil, length-append}
+use Rattle.std.proofs.lemmas.Bool.{and_parts, and_from}
 use Rattle.std.proofs.lemmas.List.{take-append-le, drop_at, take_all}
 use Rattle.std.proofs.lemmas.List.Elements.{All-from_recursion, All-append, All-cons, All-nil}
 use Rattle.std.proofs.lemmas.Str.{encodes-append, chars-encodes, length-le-encodes, encodes-IsAscii, encodes-chars, scalars-chars, IsCharBoundary-at_seam, IsCharBoundary-end}
 use Rattle.std.specs.List.{AllByRecursion, All, slice_range, list_all}
-use Rattle.std.specs.Map.{lookup}
-use Rattle.std.specs.Str.{chars, IsUtf8, IsCharBoundary, encode_utf8_all, all_scalars, bytes_eq}
+use Rattle.std.specs.Char.{is_ascii}
+use Rattle.std.specs.Str.{chars, IsUtf8, IsAscii, IsCharBoundary, encode_utf8_all, all_scalars}
 use Rattle.std.specs.Str.Parse.{digits_value}
 use Rattle.lexer.specs.Terminal.{Terminal, IsTerminated}
-use Rattle.lexer.specs.Words.{is_name, keyword_of, keywords}
-use Rattle.lexer.specs.Lexeme.{Lexeme, Word, Gap, IsLexeme, Keyword, Identifier, Literal, Sign, IsNumeral, sign_of, signs}
+use Rattle.lexer.specs.KindOf.{keyword_rows, sign_rows}
+use Rattle.lexer.specs.TokenKind.{TokenKind, End}
+use Rattle.lexer.specs.Words.{is_name, is_fixed}
+use Rattle.lexer.specs.Lexeme.{Lexeme, Word, Gap, IsLexeme, FixedWord, Identifier, Literal, IsNumeral}
 use Rattle.lexer.specs.Cut.{Cuts, Nothing, Token, Between, IsNextLexeme, IsCut, IsTextRefused, terminal_at, size}
 use Rattle.lexer.specs.Listing.{IsInOrder, IsSliceOf, IsSpelled, SpellsToken, IsAtCharacter, IsRefusedAtCharacter}
 use Rattle.common.specs.declared.refusal.RefusalAt.{RefusalAt}
 use Rattle.lexer.specs.declared.fault.LexRefusalKind.{LexRefusalKind}
-use Rattle.lexer.specs.declared.token.Kind.{Kind}
-use Rattle.lexer.specs.declared.token.Kind.TheVariants.{Name, Integer, End}
 use Rattle.lexer.proofs.Fronts.{nonempty}
 use Rattle.lexer.proofs.Reading.{digits_ascii}
-use Rattle.lexer.proofs.Tables.{same_lookup}
+use Rattle.lexer.proofs.Fixed.{coded}
+use Rattle.lexer.proofs.Tables.{found_passes, IsAscii-from_test}
 
 -- the bytes of two lists one after the other
 pub size-append : (xs ys : List ℕ) → size (xs ++ ys) ≡ size xs + size ys
@@ -85,49 +86,23 @@ scalars_parts (x ∷ xs) ys e =
     let (front, rest) = scalars_parts xs ys others in
     (and_from _ _ first front, rest)
 
--- a kind of which each token has one text
-is_fixed : Kind → Bool
-is_fixed Name = false
-is_fixed (Integer value) = false
-is_fixed End = false
-is_fixed _ = true
-
-fixed_found : (table : List (List ℕ × Kind)) → list_all (λ row. is_fixed row.1) table ≡ true → (cs : List ℕ) (kind : Kind)
-    → lookup (bytes_eq cs) table ≡ Some kind → is_fixed kind ≡ true
-fixed_found [] all cs kind found = absurd cc
-fixed_found (row ∷ rows) all cs kind found =
-    elim (cases_Bool (bytes_eq cs row.0)) [
-      | inl same ↦
-          let both : Some row.1 ≡ Some kind = sym (cond-true (bytes_eq cs row.0) (Some row.1) (lookup (bytes_eq cs) rows) same) ∙ found in
-          let k : row.1 ≡ kind = cc in
-          subst (λ x. is_fixed x ≡ true) k (and_parts _ _ all).0
-      | inr other ↦
-          fixed_found rows (and_parts _ _ all).1 cs kind (sym (cond-false (bytes_eq cs row.0) (Some row.1) (lookup (bytes_eq cs) rows) other) ∙ found)
-    ]
-
-fixed_spells : (kind : Kind) (text : List ℕ) → is_fixed kind ≡ true
-    → (keyword_of text ≡ Some kind) ⊎ (sign_of text ≡ Some kind) → SpellsToken kind text
-unfolding is_fixed
-fixed_spells Name text fixed h = absurd cc
-fixed_spells (Integer value) text fixed h = absurd cc
-fixed_spells End text fixed h = absurd cc
-fixed_spells _ text fixed h = h
-
 utf8 : (cs : List ℕ) → all_scalars cs ≡ true → IsUtf8 (encode_utf8_all cs)
 utf8 cs scalars = (cs, (scalars, refl))
 
-spelled : (kind : Kind) (cs : List ℕ) → IsLexeme (Word kind) cs → all_scalars cs ≡ true → SpellsToken kind (encode_utf8_all cs)
-unfolding is_fixed
-spelled kind cs (Keyword _ _ found) scalars =
-    let same = same_lookup keywords refl (encode_utf8_all cs) (utf8 cs scalars) ∙ ap keyword_of (chars-encodes cs scalars) in
-    fixed_spells kind (encode_utf8_all cs) (fixed_found keywords refl cs kind found) (inl (same ∙ found))
+fixed_ascii : (cs : List ℕ) → is_fixed cs ≡ true → IsAscii cs
+fixed_ascii cs fixed =
+    let one = coded cs fixed in
+    IsAscii-from_test cs (elim one.found [
+      | inl found ↦ found_passes (list_all is_ascii) keyword_rows refl cs one.kind found
+      | inr found ↦ found_passes (list_all is_ascii) sign_rows refl cs one.kind found
+    ])
+
+spelled : (kind : TokenKind) (cs : List ℕ) → IsLexeme (Word kind) cs → all_scalars cs ≡ true → SpellsToken kind (encode_utf8_all cs)
+spelled kind cs (FixedWord _ fixed) scalars = encodes-IsAscii cs (fixed_ascii cs fixed)
 spelled kind cs (Identifier _ named) scalars = ap is_name (chars-encodes cs scalars) ∙ named
 spelled kind cs (Literal _ numeral small) scalars =
     let same = encodes-IsAscii cs (digits_ascii cs numeral.digits) in
     (subst IsNumeral (sym same) numeral, ap (digits_value 10) same, small)
-spelled kind cs (Sign _ _ found) scalars =
-    let same = same_lookup signs refl (encode_utf8_all cs) (utf8 cs scalars) ∙ ap sign_of (chars-encodes cs scalars) in
-    fixed_spells kind (encode_utf8_all cs) (fixed_found signs refl cs kind found) (inr (same ∙ found))
 
 pub cut_spelled : (start : ℕ) (text : List ℕ) (ts : List Terminal) (end : ℕ) (rest : List ℕ) → Cuts start text ts end rest
     → all_scalars text ≡ true → AllByRecursion IsSpelled ts
@@ -140,7 +115,7 @@ cut_spelled start text ts end rest (Between _ _ front l _ _ _ next cuts) scalars
     cut_spelled (start + size front) l ts end rest cuts later
 
 -- no token that is cut off is an end marker
-no_marker : (kind : Kind) (text front left : List ℕ) → IsNextLexeme text (Word kind) front left → all_scalars front ≡ true
+no_marker : (kind : TokenKind) (text front left : List ℕ) → IsNextLexeme text (Word kind) front left → all_scalars front ≡ true
     → kind ≢ End
 no_marker kind text front left next scalars e =
     let none : encode_utf8_all front ≡ [] = subst (λ k. SpellsToken k (encode_utf8_all front)) e (spelled kind front next.is scalars) in

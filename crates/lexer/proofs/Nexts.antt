@@ -6,15 +6,17 @@ use Rattle.std.specs.List.{list_all}
 use Rattle.std.specs.Prelude.{nat_le}
 use Rattle.std.specs.Str.Parse.{digits_value}
 use Rattle.std.proofs.lemmas.List.Prefix.{front_fits}
-use Rattle.lexer.specs.Words.{is_white_space, is_identifier, may_begin, keyword_of}
+use Rattle.lexer.specs.Words.{is_white_space, is_identifier, may_begin}
+use Rattle.lexer.specs.KindOf.{kind_of, keyword_of, sign_of}
 use Rattle.unicode_ident.specs.Ident.{is_xid_continue}
-use Rattle.lexer.specs.Lexeme.{Lexeme, Word, Gap, OpenComment, IsLexeme, Blank, LineComment, BlockComment, Unended, Keyword, Identifier, Literal, TooLarge, Sign, IsInLine, HasNoCommentEnd, IsNumeral, sign_of}
+use Rattle.lexer.specs.Lexeme.{Lexeme, Word, Gap, OpenComment, IsLexeme, Blank, LineComment, BlockComment, Unended, Identifier, Literal, TooLarge, IsInLine, HasNoCommentEnd, IsNumeral}
 use Rattle.lexer.proofs.Closed.{IsClosed, open_before}
 use Rattle.lexer.specs.Cut.{IsNextLexeme, IsRefusedFor}
 use Rattle.lexer.specs.declared.fault.LexRefusalKind.TheVariants.{NoToken}
 use Rattle.lexer.specs.Scan.{IsNoDouble, IsNoTriple}
 use Rattle.lexer.specs.declared.token.Kind.{Kind}
-use Rattle.lexer.specs.declared.token.Kind.TheVariants.{Slash, Name}
+use Rattle.lexer.specs.declared.token.Kind.TheVariants as kinds
+use Rattle.lexer.proofs.Fixed.{is_keyword, keyword_is, sign_is}
 use Rattle.lexer.proofs.Letters.{Class, White, Digit, Letter, Solidus, Other, class_of, class-White, class-Digit, class-Letter, class-Solidus}
 use Rattle.lexer.proofs.Fronts.{Front, AfterSolidus, Alone, Line, Block, Unclosed, word_kind, literal_of, shape, nonempty}
 use Rattle.lexer.specs.Scan.{Stops}
@@ -70,15 +72,15 @@ next_literal c cs rest digit digits stops = record {
 }
 
 -- an identifier is a lexeme, and of one kind
-word_is : (cs : List ℕ) → is_identifier cs ≡ true → IsLexeme (Word (word_kind cs)) cs
+word_is : (cs : List ℕ) → is_identifier cs ≡ true → IsLexeme (Word (kind_of (word_kind cs))) cs
 word_is cs identifier = word_at (keyword_of cs) refl
   where
-    word_at : (found : Option Kind) → keyword_of cs ≡ found → IsLexeme (Word (unwrap_or found Name)) cs
-    word_at None e = Identifier cs (and_from _ _ identifier (ap (λ o. not (is_some o)) e))
-    word_at (Some kind) e = Keyword cs kind e
+    word_at : (found : Option Kind) → keyword_of cs ≡ found → IsLexeme (Word (kind_of (unwrap_or found kinds.Name))) cs
+    word_at None e = Identifier cs (and_from _ _ identifier (ap not (is_keyword cs) ∙ ap (λ o. not (is_some o)) e))
+    word_at (Some kind) e = keyword_is cs kind e
 
 pub next_word : (c : ℕ) (cs rest : List ℕ) → may_begin c ≡ true → list_all is_xid_continue cs ≡ true
-    → Stops is_xid_continue rest → IsNextLexeme (c ∷ (cs ++ rest)) (Word (word_kind (c ∷ cs))) (c ∷ cs) rest
+    → Stops is_xid_continue rest → IsNextLexeme (c ∷ (cs ++ rest)) (Word (kind_of (word_kind (c ∷ cs)))) (c ∷ cs) rest
 next_word c cs rest begins continues stops = record {
   text_is = refl;
   is = word_is (c ∷ cs) (and_from _ _ begins continues);
@@ -163,18 +165,18 @@ after_alone cs no_line no_block lexeme tail more e (Line body line) = absurd (su
 after_alone cs no_line no_block lexeme tail more e (Block body closed) = absurd (subst (IsNotFirst 42) e no_block refl)
 after_alone cs no_line no_block lexeme tail more e (Unclosed body unclosed) = absurd (subst (IsNotFirst 42) e no_block refl)
 
-pub next_solidus : (cs : List ℕ) → IsNotFirst 47 cs → IsNotFirst 42 cs → IsNextLexeme (47 ∷ cs) (Word Slash) (47 ∷ []) cs
+pub next_solidus : (cs : List ℕ) → IsNotFirst 47 cs → IsNotFirst 42 cs → IsNextLexeme (47 ∷ cs) (Word (kind_of kinds.Slash)) (47 ∷ []) cs
 next_solidus cs no_line no_block = record {
   text_is = refl;
-  is = Sign (47 ∷ []) Slash refl;
+  is = sign_is (47 ∷ []) kinds.Slash refl;
   longest = bounded Solidus 47 cs 0 class-Solidus (after_alone cs no_line no_block);
 }
 
 pub next_triple : (c d f : ℕ) (cs : List ℕ) (kind : Kind) → class_of c ≡ Other
-    → sign_of (c ∷ d ∷ f ∷ []) ≡ Some kind → IsNextLexeme (c ∷ d ∷ f ∷ cs) (Word kind) (c ∷ d ∷ f ∷ []) cs
+    → sign_of (c ∷ d ∷ f ∷ []) ≡ Some kind → IsNextLexeme (c ∷ d ∷ f ∷ cs) (Word (kind_of kind)) (c ∷ d ∷ f ∷ []) cs
 next_triple c d f cs kind class found = record {
   text_is = refl;
-  is = Sign (c ∷ d ∷ f ∷ []) kind found;
+  is = sign_is (c ∷ d ∷ f ∷ []) kind found;
   longest = bounded Other c (d ∷ f ∷ cs) 2 class (λ lexeme tail more e front. front.1.1.1);
 }
 
@@ -190,10 +192,10 @@ double c cs short lexeme (d ∷ f ∷ []) more e front =
 double c cs short lexeme (d ∷ f ∷ g ∷ tail) more e front = let most = front.1.1.1 in absurd (omega arith)
 
 pub next_double : (c d : ℕ) (cs : List ℕ) (kind : Kind) → class_of c ≡ Other → sign_of (c ∷ d ∷ []) ≡ Some kind
-    → IsNoTriple c (d ∷ cs) → IsNextLexeme (c ∷ d ∷ cs) (Word kind) (c ∷ d ∷ []) cs
+    → IsNoTriple c (d ∷ cs) → IsNextLexeme (c ∷ d ∷ cs) (Word (kind_of kind)) (c ∷ d ∷ []) cs
 next_double c d cs kind class found short = record {
   text_is = refl;
-  is = Sign (c ∷ d ∷ []) kind found;
+  is = sign_is (c ∷ d ∷ []) kind found;
   longest = bounded Other c (d ∷ cs) 1 class (double c (d ∷ cs) short);
 }
 
@@ -210,10 +212,10 @@ single c cs short alone lexeme (d ∷ f ∷ tail) more e front =
     absurd (omega arith)
 
 pub next_single : (c : ℕ) (cs : List ℕ) (kind : Kind) → class_of c ≡ Other → sign_of (c ∷ []) ≡ Some kind
-    → IsNoTriple c cs → IsNoDouble c cs → IsNextLexeme (c ∷ cs) (Word kind) (c ∷ []) cs
+    → IsNoTriple c cs → IsNoDouble c cs → IsNextLexeme (c ∷ cs) (Word (kind_of kind)) (c ∷ []) cs
 next_single c cs kind class found short alone = record {
   text_is = refl;
-  is = Sign (c ∷ []) kind found;
+  is = sign_is (c ∷ []) kind found;
   longest = bounded Other c cs 0 class
       (λ lexeme tail more e front. let n = ap length (single c cs short alone lexeme tail more e front) in omega arith);
 }
@@ -256,7 +258,7 @@ one_front Solidus c cs l m h k = one_after cs cs l m h k refl
 one_front Other c cs l m h k =
     let both : Some h.0 ≡ Some k.0 = sym h.1.0 ∙ k.1.0 in
     let same : h.0 ≡ k.0 = cc in
-    h.1.1.0 ∙ (ap Word same ∙ sym k.1.1.0)
+    h.1.1.0 ∙ (ap (λ k. Word (kind_of k)) same ∙ sym k.1.1.0)
 
 -- one list of characters is one lexeme
 pub one_lexeme : (cs : List ℕ) (l m : Lexeme) → IsLexeme l cs → IsLexeme m cs → l ≡ m

@@ -21,7 +21,8 @@ use Rattle.lexer.specs.Lexeme.{Lexeme, Word, Gap, LargeLiteral, OpenComment, Has
 use Rattle.lexer.proofs.Closed.{IsClosed}
 use Rattle.lexer.specs.Cut.{IsNextLexeme}
 use Rattle.lexer.specs.Scan.{after_run, after_close, IsTail, begins_sign}
-use Rattle.lexer.specs.declared.token.Kind.TheVariants.{Integer}
+use Rattle.lexer.specs.KindOf.{kind_of}
+use Rattle.lexer.specs.TokenKind.{Integer}
 use Rattle.lexer.proofs.Letters.{class_of, Other}
 use Rattle.lexer.proofs.Fronts.{word_kind, literal_of}
 use Rattle.lexer.proofs.Nexts.{next_literal, next_word, next_line, next_block, next_open}
@@ -89,11 +90,11 @@ run_tail p cs c after rest e k = let h = run_front p cs c after rest e k in (c �
 
 -- a word
 pub word_read : (cs : List ℕ) (c : ℕ) (after rest front : List ℕ) → cs ≡ c ∷ after → rest ≡ after_run is_xid_continue after
-    → may_begin c ≡ true → cs ≡ front ++ rest → IsNextLexeme cs (Word (word_kind front)) front rest
+    → may_begin c ≡ true → cs ≡ front ++ rest → IsNextLexeme cs (Word (kind_of (word_kind front))) front rest
 word_read cs c after rest front e k begins parts =
     let h = run_front is_xid_continue cs c after rest e k in
     let same : c ∷ h.others ≡ front = same_before (c ∷ h.others) front rest (sym h.text_is ∙ parts) in
-    moved _ _ _ _ _ _ _ _ (sym h.text_is) (ap (λ f. Word (word_kind f)) same) same refl
+    moved _ _ _ _ _ _ _ _ (sym h.text_is) (ap (λ f. Word (kind_of (word_kind f))) same) same refl
     (next_word c h.others rest begins h.passes h.stops)
 
 -- an integer

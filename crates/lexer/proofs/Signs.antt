@@ -7,7 +7,7 @@ use Rattle.std.specs.Str.{bytes_eq}
 use Rattle.std.proofs.lemmas.Bool.{cond-false}
 use Rattle.std.proofs.lemmas.Bool.Decides.{nat_tests}
 use Rattle.std.proofs.lemmas.Slice.Eq.{bytes_eq-Decides}
-use Rattle.lexer.specs.Lexeme.{signs}
+use Rattle.lexer.specs.KindOf.{sign_rows}
 use Rattle.lexer.specs.Scan.{IsNoDouble, IsNoTriple, begins_sign_of, has_front}
 
 abbrev pub head : List ℕ → ℕ
@@ -42,8 +42,8 @@ none_found {K} text (row ∷ rows) none = by (has_front (length text) (head text
 pub no_triple : (c : ℕ) (cs : List ℕ) → begins_sign_of 3 c ≡ false → IsNoTriple c cs
 no_triple c [] none = tt
 no_triple c (d ∷ []) none = tt
-no_triple c (d ∷ (e ∷ cs)) none = none_found (c ∷ d ∷ e ∷ []) signs none
+no_triple c (d ∷ (e ∷ cs)) none = none_found (c ∷ d ∷ e ∷ []) sign_rows none
 
 pub no_double : (c : ℕ) (cs : List ℕ) → begins_sign_of 2 c ≡ false → IsNoDouble c cs
 no_double c [] none = tt
-no_double c (d ∷ cs) none = none_found (c ∷ d ∷ []) signs none
+no_double c (d ∷ cs) none = none_found (c ∷ d ∷ []) sign_rows none

@@ -21,7 +21,7 @@ found_passes {K} test (row ∷ rows) all cs kind found =
     ]
 
 -- the bytes of a list that are all below 128
-IsAscii-from_test : (bs : List ℕ) → list_all is_ascii bs ≡ true → IsAscii bs
+pub IsAscii-from_test : (bs : List ℕ) → list_all is_ascii bs ≡ true → IsAscii bs
 IsAscii-from_test [] all = IsAscii-nil
 IsAscii-from_test (b ∷ bs) all =
     IsAscii-cons b bs (ltb-true b 128 (and_parts _ _ all).0) (IsAscii-from_test bs (and_parts _ _ all).1)

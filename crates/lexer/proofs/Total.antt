@@ -7,12 +7,13 @@ use Rattle.std.specs.Str.{chars, IsUtf8}
 use Rattle.lexer.specs.Terminal.{Terminal}
 use Rattle.lexer.specs.Words.{is_white_space, may_begin}
 use Rattle.unicode_ident.specs.Ident.{is_xid_continue}
-use Rattle.lexer.specs.Lexeme.{Lexeme, Word, Gap, LargeLiteral, OpenComment, sign_of}
+use Rattle.lexer.specs.Lexeme.{Lexeme, Word, Gap, LargeLiteral, OpenComment}
 use Rattle.lexer.specs.Cut.{Cuts, Nothing, Token, Between, IsNextLexeme, IsCut, IsRefusedFor, terminal_at, size}
 use Rattle.lexer.specs.Laws.{IsCutOrRefused}
 use Rattle.lexer.specs.Scan.{after_close, after_run, IsNoDouble, IsNoTriple, IsStuck}
+use Rattle.lexer.specs.KindOf.{kind_of, sign_of}
+use Rattle.lexer.specs.TokenKind.{TokenKind, End}
 use Rattle.lexer.specs.declared.token.Kind.{Kind}
-use Rattle.lexer.specs.declared.token.Kind.TheVariants.{End}
 use Rattle.common.specs.declared.refusal.RefusalAt.{RefusalAt}
 use Rattle.lexer.specs.declared.fault.LexRefusalKind.{LexRefusalKind}
 use Rattle.lexer.specs.declared.fault.LexRefusalKind.TheVariants.{NoToken, LiteralTooLarge, UnclosedComment}
@@ -31,19 +32,19 @@ find_single : (c : ℕ) (cs : List ℕ) → class_of c ≡ Other → IsNoTriple 
     → sign_of (c ∷ []) ≡ single → Found (c ∷ cs)
 find_single c cs class short alone None e = Absent (none_next c cs class e short alone)
 find_single c cs class short alone (Some kind) e =
-    Next (Word kind) (c ∷ []) cs (next_single c cs kind class e short alone)
+    Next (Word (kind_of kind)) (c ∷ []) cs (next_single c cs kind class e short alone)
 
 find_double : (c d : ℕ) (cs : List ℕ) → class_of c ≡ Other → IsNoTriple c (d ∷ cs) → (double : Option Kind)
     → sign_of (c ∷ d ∷ []) ≡ double → Found (c ∷ d ∷ cs)
 find_double c d cs class short None e = find_single c (d ∷ cs) class short e (sign_of (c ∷ [])) refl
 find_double c d cs class short (Some kind) e =
-    Next (Word kind) (c ∷ d ∷ []) cs (next_double c d cs kind class e short)
+    Next (Word (kind_of kind)) (c ∷ d ∷ []) cs (next_double c d cs kind class e short)
 
 find_triple : (c d f : ℕ) (cs : List ℕ) → class_of c ≡ Other → (triple : Option Kind)
     → sign_of (c ∷ d ∷ f ∷ []) ≡ triple → Found (c ∷ d ∷ f ∷ cs)
 find_triple c d f cs class None e = find_double c d (f ∷ cs) class e (sign_of (c ∷ d ∷ [])) refl
 find_triple c d f cs class (Some kind) e =
-    Next (Word kind) (c ∷ d ∷ f ∷ []) cs (next_triple c d f cs kind class e)
+    Next (Word (kind_of kind)) (c ∷ d ∷ f ∷ []) cs (next_triple c d f cs kind class e)
 
 find_sign : (c : ℕ) (cs : List ℕ) → class_of c ≡ Other → Found (c ∷ cs)
 find_sign c [] class = find_single c [] class tt tt (sign_of (c ∷ [])) refl
@@ -121,7 +122,7 @@ shorter lexeme text (c ∷ front) rest next =
     let m = length-append front rest in
     omega arith
 
-goes_on : (start : ℕ) (text : List ℕ) (kind : Kind) (front left : List ℕ) → IsNextLexeme text (Word kind) front left
+goes_on : (start : ℕ) (text : List ℕ) (kind : TokenKind) (front left : List ℕ) → IsNextLexeme text (Word kind) front left
     → Cutting (start + size front) left → Cutting start text
 goes_on start text kind front left next c = record {
   words = terminal_at start kind front ∷ c.words;

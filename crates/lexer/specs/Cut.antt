@@ -4,8 +4,7 @@ use Rattle.std.specs.Prelude.{◌≡◌, ◌≢◌, ℕ, ◌+◌, ◌≤◌, Lis
 use Rattle.std.specs.Str.{chars, encode_utf8_all}
 use Rattle.lexer.specs.Terminal.{Terminal}
 use Rattle.lexer.specs.Lexeme.{Lexeme, Word, Gap, LargeLiteral, OpenComment, IsLexeme}
-use Rattle.lexer.specs.declared.token.Kind.{Kind}
-use Rattle.lexer.specs.declared.token.Kind.TheVariants.{End}
+use Rattle.lexer.specs.TokenKind.{TokenKind, End}
 use Rattle.lexer.specs.declared.fault.LexRefusalKind.{LexRefusalKind}
 use Rattle.lexer.specs.declared.fault.LexRefusalKind.TheVariants.{NoToken, LiteralTooLarge, UnclosedComment}
 use Rattle.common.specs.declared.refusal.RefusalAt.{RefusalAt}
@@ -22,7 +21,7 @@ abbrev pub size : List ℕ → ℕ
 size cs = length (encode_utf8_all cs)
 
 -- the token with these characters that begins at the byte `start`
-abbrev pub terminal_at : ℕ → Kind → List ℕ → Terminal
+abbrev pub terminal_at : ℕ → TokenKind → List ℕ → Terminal
 terminal_at start kind cs = record { kind = kind; text = encode_utf8_all cs; start = start; end = start + size cs }
 
 -- `text` begins at the byte `start`; its front is cut into `tokens`; `rest` is left, and begins at the byte `end`
@@ -30,7 +29,7 @@ pub data Cuts : ℕ → List ℕ → List Terminal → ℕ → List ℕ → Type
   -- nothing is cut off
   Nothing : (start : ℕ) (text : List ℕ) → Cuts start text [] start text
   -- the next lexeme is a token, and the cut goes on after it
-  Token : (start : ℕ) (text : List ℕ) (kind : Kind) (front left : List ℕ) (tokens : List Terminal) (end : ℕ)
+  Token : (start : ℕ) (text : List ℕ) (kind : TokenKind) (front left : List ℕ) (tokens : List Terminal) (end : ℕ)
       (rest : List ℕ) → IsNextLexeme text (Word kind) front left → Cuts (start + size front) left tokens end rest
       → Cuts start text (terminal_at start kind front ∷ tokens) end rest
   -- the next lexeme gives no token, and the cut goes on after it

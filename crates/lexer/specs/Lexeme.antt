@@ -1,26 +1,13 @@
 -- Lexemes: the pieces of which a text is made, as tokens, white space and comments, and two that are refused.
 -- A text is the list of its characters, each by its code.
 -- Source: the usual notion of a lexeme in lexical analysis; which lexemes there are is our own.
-use Rattle.std.specs.Prelude.{◌≡◌, ◌≢◌, ℕ, ◌<◌, ◌≤◌, ◌==◌, not, List, [], ◌∷◌, ◌++◌, Option, Some, bytes_eq, codes, length, IsTrue}
+use Rattle.std.specs.Prelude.{◌≢◌, ℕ, ◌<◌, ◌≤◌, ◌==◌, not, List, [], ◌∷◌, ◌++◌, codes, length, IsTrue}
 use Rattle.common.specs.declared.limits.TheConstants.{MAX_INTEGER}
 use Rattle.std.specs.Char.{is_ascii_digit}
 use Rattle.std.specs.List.{list_all}
-use Rattle.std.specs.Map.{lookup}
 use Rattle.std.specs.Str.Parse.{digits_value}
-use Rattle.lexer.specs.Words.{is_white_space, is_name, keyword_of}
-use Rattle.lexer.specs.declared.token.Kind.{Kind}
-use Rattle.lexer.specs.declared.token.Kind.TheVariants.{OpenBrace, CloseBrace, OpenParenthesis, CloseParenthesis, OpenBracket, CloseBracket, Semicolon, Comma, Colon, Assign, EqualTo, NotEqualTo, LessThan, AtMost, GreaterThan, AtLeast, Plus, Minus, Star, Slash, Percent, Not, And, Or, BitAnd, BitOr, BitXor, ShiftLeft, ShiftRight, ShiftRightUnsigned, Name, Integer}
-
--- the signs, each with the kind of its token
-abbrev pub signs : List (List ℕ × Kind)
-signs =
-    (codes "{", OpenBrace) ∷ (codes "}", CloseBrace) ∷ (codes "(", OpenParenthesis) ∷ (codes ")", CloseParenthesis)
-    ∷ (codes "[", OpenBracket) ∷ (codes "]", CloseBracket) ∷ (codes ";", Semicolon) ∷ (codes ",", Comma)
-    ∷ (codes ":", Colon) ∷ (codes "=", Assign) ∷ (codes "==", EqualTo) ∷ (codes "!=", NotEqualTo)
-    ∷ (codes "<", LessThan) ∷ (codes "<=", AtMost) ∷ (codes ">", GreaterThan) ∷ (codes ">=", AtLeast)
-    ∷ (codes "+", Plus) ∷ (codes "-", Minus) ∷ (codes "*", Star) ∷ (codes "/", Slash) ∷ (codes "%", Percent)
-    ∷ (codes "!", Not) ∷ (codes "&&", And) ∷ (codes "||", Or) ∷ (codes "&", BitAnd) ∷ (codes "|", BitOr)
-    ∷ (codes "^", BitXor) ∷ (codes "<<", ShiftLeft) ∷ (codes ">>", ShiftRight) ∷ (codes ">>>", ShiftRightUnsigned) ∷ []
+use Rattle.lexer.specs.TokenKind.{TokenKind, Fixed, Name, Integer}
+use Rattle.lexer.specs.Words.{is_white_space, is_name, is_fixed}
 
 -- one decimal digit or more
 pub record IsNumeral (cs : List ℕ) : Type 0 where
@@ -34,7 +21,7 @@ HasNoCommentEnd cs = (before after : List ℕ) → cs ≢ before ++ (codes "*/" 
 -- what a lexeme is
 pub data Lexeme : Type 0 where
   -- a token of this kind
-  Word : Kind → Lexeme
+  Word : TokenKind → Lexeme
   -- white space or a comment, which give no token
   Gap : Lexeme
   -- an integer above the greatest, which is refused
@@ -52,8 +39,8 @@ pub data IsLexeme : Lexeme → List ℕ → Type 0 where
   BlockComment : (cs : List ℕ) → HasNoCommentEnd (cs ++ codes "*") → IsLexeme Gap (codes "/*" ++ (cs ++ codes "*/"))
   -- `/*` and what follows, where no `*/` stands
   Unended : (cs : List ℕ) → HasNoCommentEnd cs → IsLexeme OpenComment (codes "/*" ++ cs)
-  -- a word of the table of keywords
-  Keyword : (cs : List ℕ) (kind : Kind) → keyword_of cs ≡ Some kind → IsLexeme (Word kind) cs
+  -- a keyword or a sign
+  FixedWord : (cs : List ℕ) (fixed : IsTrue (is_fixed cs)) → IsLexeme (Word (Fixed cs fixed)) cs
   -- an identifier that is no keyword
   Identifier : (cs : List ℕ) → IsTrue (is_name cs) → IsLexeme (Word Name) cs
   -- decimal digits, read in decimal
@@ -61,14 +48,8 @@ pub data IsLexeme : Lexeme → List ℕ → Type 0 where
       → IsLexeme (Word (Integer (digits_value 10 cs))) cs
   -- decimal digits of a number above the greatest
   TooLarge : (cs : List ℕ) → IsNumeral cs → MAX_INTEGER < digits_value 10 cs → IsLexeme LargeLiteral cs
-  -- a sign of the table
-  Sign : (cs : List ℕ) (kind : Kind) → lookup (bytes_eq cs) signs ≡ Some kind → IsLexeme (Word kind) cs
 
 -- ---- parts of the rules, by which proofs speak of them
-
--- the kind of the sign that the characters are, if they are one
-abbrev pub sign_of : List ℕ → Option Kind
-sign_of cs = lookup (bytes_eq cs) signs
 
 -- no character is a line feed
 abbrev pub IsInLine : List ℕ → Type 0

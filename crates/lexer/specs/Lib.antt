@@ -8,4 +8,6 @@ pub mod Position
 pub mod NextPlace
 pub mod Scan
 pub mod Terminal
+pub mod TokenKind
+pub mod KindOf
 pub mod Words

@@ -1,15 +1,14 @@
 -- What holds of the tokens of a text, one by one and in a row.
 -- Source: our own.
-use Rattle.std.specs.Prelude.{◌≡◌, ◌⊎◌, ℕ, ◌≤◌, List, [], ◌∷◌, Some, slice_range, IsTrue}
+use Rattle.std.specs.Prelude.{◌≡◌, ℕ, ◌≤◌, List, [], ◌∷◌, slice_range, IsTrue}
 use Rattle.std.specs.Str.{IsCharBoundary}
 use Rattle.std.specs.Str.Parse.{digits_value}
-use Rattle.lexer.specs.Lexeme.{IsNumeral, sign_of}
+use Rattle.lexer.specs.Lexeme.{IsNumeral}
 use Rattle.lexer.specs.Terminal.{Terminal}
-use Rattle.lexer.specs.Words.{is_name_text, keyword_of}
+use Rattle.lexer.specs.Words.{is_name_text}
 use Rattle.common.specs.declared.refusal.RefusalAt.{RefusalAt}
 use Rattle.lexer.specs.declared.fault.LexRefusalKind.{LexRefusalKind}
-use Rattle.lexer.specs.declared.token.Kind.{Kind}
-use Rattle.lexer.specs.declared.token.Kind.TheVariants.{Name, Integer, End}
+use Rattle.lexer.specs.TokenKind.{TokenKind, Fixed, Name, Integer, End}
 use Rattle.common.specs.declared.limits.TheConstants.{MAX_INTEGER}
 
 -- the terminals stand one after another, from the byte `start` to the byte `end`
@@ -22,11 +21,11 @@ abbrev pub IsSliceOf : List ℕ → Terminal → Type 0
 IsSliceOf source t = t.text ≡ slice_range source t.start t.end
 
 -- the bytes spell a terminal of this kind
-abbrev pub SpellsToken : Kind → List ℕ → Type 0
+abbrev pub SpellsToken : TokenKind → List ℕ → Type 0
+SpellsToken (Fixed cs fixed) text = text ≡ cs
 SpellsToken Name text = IsTrue (is_name_text text)
 SpellsToken (Integer value) text = IsNumeral text × (digits_value 10 text ≡ value) × (value ≤ MAX_INTEGER)
 SpellsToken End text = text ≡ []
-SpellsToken kind text = (keyword_of text ≡ Some kind) ⊎ (sign_of text ≡ Some kind)
 
 -- the terminal's text spells its kind
 abbrev pub IsSpelled : Terminal → Type 0

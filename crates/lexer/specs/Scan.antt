@@ -5,7 +5,8 @@ use Rattle.std.specs.List.{list_any}
 use Rattle.std.specs.Char.{is_ascii_digit}
 use Rattle.lexer.specs.Words.{is_white_space, may_begin}
 use Rattle.unicode_ident.specs.Ident.{is_xid_continue}
-use Rattle.lexer.specs.Lexeme.{Lexeme, Word, Gap, sign_of, signs}
+use Rattle.lexer.specs.KindOf.{kind_of, sign_of, sign_rows}
+use Rattle.lexer.specs.Lexeme.{Lexeme, Word, Gap}
 use Rattle.lexer.specs.Cut.{IsNextLexeme, IsRefusedFor}
 use Rattle.common.specs.declared.refusal.RefusalAt.{RefusalAt}
 use Rattle.lexer.specs.declared.fault.LexRefusalKind.{LexRefusalKind}
@@ -35,7 +36,7 @@ has_front count c word = nat_eq (length word) count && nat_eq (get_or word 0 0) 
 
 -- the character begins a sign of this many characters
 abbrev pub begins_sign_of : ℕ → ℕ → Bool
-begins_sign_of count c = list_any (λ row. has_front count c row.0) signs
+begins_sign_of count c = list_any (λ row. has_front count c row.0) sign_rows
 
 -- the list is empty, or its first element fails the test
 abbrev pub Stops : (ℕ → Bool) → List ℕ → Type 0
@@ -59,7 +60,7 @@ IsTail cs rest = (front : List ℕ) × (cs ≡ front ++ rest)
 -- a token's kind, or none for a gap
 abbrev pub lexeme_of : Option Kind → Lexeme
 lexeme_of None = Gap
-lexeme_of (Some kind) = Word kind
+lexeme_of (Some kind) = Word (kind_of kind)
 
 -- the text begins with the lexeme of this kind, and `rest` follows
 abbrev pub Reads : List ℕ → Option Kind → List ℕ → Type 0

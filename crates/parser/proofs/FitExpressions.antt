@@ -2,7 +2,6 @@
 use Rattle.std.proofs.Common.{◌≡◌, ℕ, zero, suc, pred, ◌+◌, ◌≤◌, ◌<◌, List, [], ◌∷◌, sym, subst, inl, inr, sum_by, arith}
 use Rattle.std.specs.Prelude.{Option}
 use Rattle.std.specs.List.{All}
-use Rattle.lexer.specs.declared.token.Kind.TheVariants as kinds
 use Rattle.syntax.specs.declared.tree.BinaryOperator.{BinaryOperator}
 use Rattle.syntax.specs.declared.line.Line.{Line}
 use Rattle.syntax.specs.Form.{Form, level, only}
@@ -97,7 +96,7 @@ module _ (fits : ℕ → Type 0) (word : List ℕ → Type 0) (number : ℕ → 
     pub index_fits : (tree : ExpressionTree) (k : ℕ) → Having index tree k → FitIndex tree k
     unfolding index
     index_fits tree k h =
-        let front = from_before fits word number room (level (only kinds.OpenBracket) Expression) kinds.CloseBracket h.0 k h.1 in
+        let front = from_before fits word number room (level (only "[") Expression) "]" h.0 k h.1 in
         let inner = front.1.3 in
         subst (λ t. FitIndex t k) (sym h.2) (record {
           written = inner.written;
@@ -108,7 +107,7 @@ module _ (fits : ℕ → Type 0) (word : List ℕ → Type 0) (number : ℕ → 
     parenthesised_fits : (tree : ExpressionTree) (k : ℕ) → Having parenthesised tree k → Fitted tree k
     unfolding parenthesised
     parenthesised_fits tree k h =
-        let front = from_before fits word number room (level (only kinds.OpenParenthesis) Expression) kinds.CloseParenthesis h.0 k h.1 in
+        let front = from_before fits word number room (level (only "(") Expression) ")" h.0 k h.1 in
         let inner = front.1.3 in
         subst (λ t. Fitted t k) (sym h.2) (record {
           written = inner.written;
@@ -176,14 +175,14 @@ module _ (fits : ℕ → Type 0) (word : List ℕ → Type 0) (number : ℕ → 
     pub unary_symbol_fits : (tree : ExpressionTree) (k : ℕ) → Having unary tree k → Fitted tree k
     unary_symbol_fits tree k h = unary_fits tree k h
 
-    pub expressions_fit : (trees : List ExpressionTree) (k : ℕ) → Having (some kinds.Comma expression) trees k → FitExpressions fits word number room trees k
+    pub expressions_fit : (trees : List ExpressionTree) (k : ℕ) → Having (some "," expression) trees k → FitExpressions fits word number room trees k
     expressions_fit trees k h =
-        some_fit fits word number room kinds.Comma expression Written expression_nodes (IsNestedExpression room) expression_fits trees k h
+        some_fit fits word number room "," expression Written expression_nodes (IsNestedExpression room) expression_fits trees k h
 
     pub arguments_fit : (trees : List ExpressionTree) (k : ℕ) → Having arguments trees k → Fit (All Written trees) (2 + sum_by expression_nodes trees) ((0 < room) × All (IsNestedExpression (pred room)) trees) k
     unfolding arguments
     arguments_fit trees k h =
-        let front = from_before fits word number room (level (only kinds.OpenParenthesis) Arguments) kinds.CloseParenthesis h.0 k h.1 in
+        let front = from_before fits word number room (level (only "(") Arguments) ")" h.0 k h.1 in
         let inner = front.1.3 in
         subst (λ (list : List ExpressionTree). Fit (All Written list) (2 + sum_by expression_nodes list) ((0 < room) × All (IsNestedExpression (pred room)) list) k) (sym h.2) (record {
           written = inner.written;

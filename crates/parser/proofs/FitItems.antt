@@ -3,7 +3,6 @@ use Rattle.std.proofs.Common.{◌≡◌, ℕ, ◌+◌, ◌≤◌, List, sym, sub
 use Rattle.std.specs.Prelude.{Option}
 use Rattle.std.specs.List.{All}
 use Rattle.std.proofs.lemmas.List.Elements.{All-nil}
-use Rattle.lexer.specs.declared.token.Kind.TheVariants as kinds
 use Rattle.common.specs.declared.direction.Direction.{Direction}
 use Rattle.syntax.specs.Form.{Form, many, ◌·◌}
 use Rattle.syntax.specs.Grammar.{at, key, ◌◂◌, base, name, label, direction, channel, exception, constant, global_value, global, written_result, parameter, thrown, throws, procedure, item, program, optional, some, ◌▸◌}
@@ -30,7 +29,7 @@ module _ (fits : ℕ → Type 0) (word : List ℕ → Type 0) (number : ℕ → 
   channel_fits : (tree : ItemTree) (k : ℕ) → Having channel tree k → FitItem tree k
   unfolding channel
   channel_fits tree k h =
-      let line = from_before fits word number room (direction · label · name) kinds.Semicolon h.0 k h.1 in
+      let line = from_before fits word number room (direction · label · name) ";" h.0 k h.1 in
       let a = line.1 in
       let b = a.2 in
       let keyword = direction_fits h.0.0.0 b.0 b.2 in
@@ -45,9 +44,9 @@ module _ (fits : ℕ → Type 0) (word : List ℕ → Type 0) (number : ℕ → 
   exception_fits : (tree : ItemTree) (k : ℕ) → Having exception tree k → FitItem tree k
   unfolding exception
   exception_fits tree k h =
-      let line = from_before fits word number room (at kinds.Exception · name) kinds.Semicolon h.0 k h.1 in
+      let line = from_before fits word number room (at "exception" · name) ";" h.0 k h.1 in
       let both = line.1 in
-      let keyword = from_at fits word number room kinds.Exception h.0.0 both.0 both.2 in
+      let keyword = from_at fits word number room "exception" h.0.0 both.0 both.2 in
       let named = name_fits fits word number room h.0.1 both.1 both.3 in
       subst (λ t. FitItem t k) (sym h.2) (record {
         written = (keyword.0, named.written);
@@ -63,7 +62,7 @@ module _ (fits : ℕ → Type 0) (word : List ℕ → Type 0) (number : ℕ → 
   constant_fits tree k h = elim h [
     | inl one ↦
         let both = one.1 in
-        let keyword = from_at fits word number room kinds.Minus one.0.0 both.0 both.2 in
+        let keyword = from_at fits word number room "-" one.0.0 both.0 both.2 in
         let value = integer_fits fits word number room one.0.1 both.1 both.3 in
         subst (λ t. FitConstant t k) (sym one.2) ((keyword.0, value.1), omega (arith, keyword.1, both.4))
     | inr h ↦ elim h [
@@ -82,7 +81,7 @@ module _ (fits : ℕ → Type 0) (word : List ℕ → Type 0) (number : ℕ → 
   global_value_fits : (tree : GlobalValueTree) (k : ℕ) → Having global_value tree k → FitGlobalValue tree k
   unfolding global_value
   global_value_fits tree k (inl h) =
-      let inner = from_after fits word number room kinds.Assign constant h.0 k h.1 in
+      let inner = from_after fits word number room "=" constant h.0 k h.1 in
       let one = constant_fits h.0 inner.0 inner.1 in
       subst (λ t. FitGlobalValue t k) (sym h.2) (one.0, omega (arith, one.1, inner.2))
   global_value_fits tree k (inr h) =
@@ -92,12 +91,12 @@ module _ (fits : ℕ → Type 0) (word : List ℕ → Type 0) (number : ℕ → 
   global_fits : (tree : ItemTree) (k : ℕ) → Having global tree k → FitItem tree k
   unfolding global
   global_fits tree k h =
-      let line = from_before fits word number room (at kinds.Global · base · label · name · global_value) kinds.Semicolon h.0 k h.1 in
+      let line = from_before fits word number room (at "global" · base · label · name · global_value) ";" h.0 k h.1 in
       let a = line.1 in
       let b = a.2 in
       let c = b.2 in
       let d = c.2 in
-      let keyword = from_at fits word number room kinds.Global h.0.0.0.0.0 d.0 d.2 in
+      let keyword = from_at fits word number room "global" h.0.0.0.0.0 d.0 d.2 in
       let typed = base_fits fits word number room h.0.0.0.0.1 d.1 d.3 in
       let labelled = label_fits fits word number room h.0.0.0.1 c.1 c.3 in
       let named = name_fits fits word number room h.0.0.1 b.1 b.3 in
@@ -115,7 +114,7 @@ module _ (fits : ℕ → Type 0) (word : List ℕ → Type 0) (number : ℕ → 
   result_fits : (pair : ℕ × WrittenResultTree) (k : ℕ) → Having written_result pair k → FitResult pair k
   unfolding written_result valued
   result_fits pair k (inl h) =
-      let keyword = from_at fits word number room kinds.Void h.0 k h.1 in
+      let keyword = from_at fits word number room "void" h.0 k h.1 in
       subst (λ p. FitResult p k) (sym h.2) (keyword.0, tt, omega (arith, keyword.1))
   result_fits pair k (inr h) =
       let both = h.1 in
@@ -137,13 +136,13 @@ module _ (fits : ℕ → Type 0) (word : List ℕ → Type 0) (number : ℕ → 
         nested = tt;
       })
 
-  parameters_fit : (trees : List ParameterTree) (k : ℕ) → Having (some kinds.Comma parameter) trees k → Fit (All (IsWrittenParameter fits word number) trees) (sum_by parameter_nodes trees) (All Nothing trees) k
+  parameters_fit : (trees : List ParameterTree) (k : ℕ) → Having (some "," parameter) trees k → Fit (All (IsWrittenParameter fits word number) trees) (sum_by parameter_nodes trees) (All Nothing trees) k
   parameters_fit trees k h =
-      some_fit fits word number room kinds.Comma parameter (IsWrittenParameter fits word number) parameter_nodes Nothing parameter_fits trees k h
+      some_fit fits word number room "," parameter (IsWrittenParameter fits word number) parameter_nodes Nothing parameter_fits trees k h
 
-  end_label_fits : (tree : Option LabelTree) (k : ℕ) → Having (optional (kinds.Colon ▸ label)) tree k → Fit (IsWrittenOptionalLabel fits word number tree) (optional_label_nodes tree) (Nothing tree) k
+  end_label_fits : (tree : Option LabelTree) (k : ℕ) → Having (optional (":" ▸ label)) tree k → Fit (IsWrittenOptionalLabel fits word number tree) (optional_label_nodes tree) (Nothing tree) k
   end_label_fits tree k (inl h) =
-      let inner = from_after fits word number room kinds.Colon label h.0 k h.1 in
+      let inner = from_after fits word number room ":" label h.0 k h.1 in
       let one = label_fits fits word number room h.0 inner.0 inner.1 in
       subst (λ t. Fit (IsWrittenOptionalLabel fits word number t) (optional_label_nodes t) (Nothing t) k) (sym h.2) (record { written = one.written; few = omega (arith, one.few, inner.2); nested = tt })
   end_label_fits tree k (inr h) =
@@ -167,12 +166,12 @@ module _ (fits : ℕ → Type 0) (word : List ℕ → Type 0) (number : ℕ → 
   thrown_list_fits : (trees : List ThrownTree) (k : ℕ) → Having thrown_list trees k → FitThrows trees k
   unfolding thrown_list
   thrown_list_fits trees k h =
-      separated_fits fits word number room kinds.Comma thrown (IsWrittenThrown fits word number) thrown_nodes Nothing thrown_fits trees k h
+      separated_fits fits word number room "," thrown (IsWrittenThrown fits word number) thrown_nodes Nothing thrown_fits trees k h
 
   some_throws_fit : (trees : List ThrownTree) (k : ℕ) → Having some_throws trees k → FitThrows trees k
   unfolding some_throws
   some_throws_fit trees k h =
-      let close = from_before fits word number room (key kinds.Throws ◂ kinds.OpenParenthesis · thrown_list) kinds.CloseParenthesis h.0 k h.1 in
+      let close = from_before fits word number room (key "throws" ◂ "(" · thrown_list) ")" h.0 k h.1 in
       let both = close.1 in
       let list = thrown_list_fits h.0.1 both.1 both.3 in
       subst (λ list. FitThrows list k) (sym h.2) (record { written = list.written; few = omega (arith, list.few, both.4, close.2); nested = list.nested })
@@ -189,9 +188,9 @@ module _ (fits : ℕ → Type 0) (word : List ℕ → Type 0) (number : ℕ → 
       let a = h.1 in
       let b = a.2 in
       let c = b.2 in
-      let close = from_before fits word number room (written_result · name · optional label ◂ kinds.OpenParenthesis · some kinds.Comma parameter) kinds.CloseParenthesis h.0.0.0.0 c.0 c.2 in
+      let close = from_before fits word number room (written_result · name · optional label ◂ "(" · some "," parameter) ")" h.0.0.0.0 c.0 c.2 in
       let d = close.1 in
-      let front = from_before fits word number room (written_result · name · optional label) kinds.OpenParenthesis h.0.0.0.0.0 d.0 d.2 in
+      let front = from_before fits word number room (written_result · name · optional label) "(" h.0.0.0.0.0 d.0 d.2 in
       let e = front.1 in
       let f = e.2 in
       let answers = result_fits h.0.0.0.0.0.0.0 f.0 f.2 in
@@ -229,7 +228,7 @@ module _ (fits : ℕ → Type 0) (word : List ℕ → Type 0) (number : ℕ → 
   pub program_fits : (tree : ProgramTree) (k : ℕ) → Having program tree k → Fit (IsWritten fits word number tree) (program_nodes tree) (IsNested room tree) k
   unfolding program
   program_fits tree k h =
-      let inner = from_before fits word number room (many item) kinds.End h.0 k h.1 in
+      let inner = from_before fits word number room (many item) "the end" h.0 k h.1 in
       let list = each_fits fits word number room item (IsWrittenItem fits word number) item_nodes (IsNestedItem room) item_fits h.0 inner.0 inner.1 in
       subst (λ t. Fit (IsWritten fits word number t) (program_nodes t) (IsNested room t) k) (sym h.2) (record {
         written = list.written;

@@ -1,31 +1,20 @@
 -- Names, labels, integers and base types fit.
 use Rattle.std.proofs.Common.{◌≡◌, ℕ, ◌+◌, List, [], ◌∷◌, length, Bool, refl, sym, subst, inl, inr, sum_by, arith}
-use Rattle.std.specs.Prelude.{Option, Some}
+use Rattle.std.specs.Prelude.{Option}
 use Rattle.std.specs.List.{All}
 use Rattle.std.proofs.lemmas.List.Sums.{sum_by-cons}
-use Rattle.std.proofs.lemmas.Option.{cond_some}
-use Rattle.lexer.specs.declared.token.Kind.{Kind}
-use Rattle.lexer.specs.declared.token.Kind.TheVariants as kinds
 use Rattle.common.specs.declared.base_type.BaseType.{BaseType}
-use Rattle.syntax.specs.Form.{Form, ◌·◌, only, shape, same_kind}
+use Rattle.syntax.specs.Form.{Form, ◌·◌}
 use Rattle.syntax.specs.Grammar.{at, ◌▸◌, name, component, label, base, integer, truth, size, optional, some}
 use Rattle.parser.specs.Parts.{readers}
 use Rattle.syntax.specs.Nodes.{component_nodes, label_nodes, optional_label_nodes}
 use Rattle.syntax.specs.Tree.{NameTree, ComponentTree, component_of, LabelTree, SizeTree}
 use Rattle.syntax.specs.Written.{IsWrittenName, IsWrittenComponent, IsWrittenLabel, IsWrittenOptionalLabel, IsWrittenSize}
-use Rattle.parser.proofs.SameKind.{same_kind-equal}
+use Rattle.parser.proofs.SameKind.{name_is}
 use Rattle.parser.proofs.Fits.{Fit, Has, from_at, from_after, from_before, some_fit}
 
 abbrev pub Nothing : {A : Type 0} → A → Type 0
 Nothing tree = Unit {0}
-
-shape_name : (kind : Kind) → shape kind ≡ kinds.Name → kind ≡ kinds.Name
-shape_name (kinds.Integer value) e = absurd cc
-shape_name kinds.Name e = e
-shape_name _ e = e
-
-name_is : (kind : Kind) (value : Unit {0}) → only kinds.Name (shape kind) ≡ Some value → kind ≡ kinds.Name
-name_is kind value e = shape_name kind (same_kind-equal (shape kind) kinds.Name (cond_some (same_kind (shape kind) kinds.Name) tt value e).0)
 
 ones : {A : Type 0} (list : List A) → length list ≡ sum_by (λ one. 1) list
 ones [] = refl
@@ -46,8 +35,8 @@ module _ (fits : ℕ → Type 0) (word : List ℕ → Type 0) (number : ℕ → 
         nested = tt;
       })
 
-  readers_fit : (trees : List NameTree) (k : ℕ) → Having (some kinds.Comma name) trees k → Fit (All (IsWrittenName fits word number) trees) (sum_by (λ one. 1) trees) (All Nothing trees) k
-  readers_fit trees k h = some_fit fits word number room kinds.Comma name (IsWrittenName fits word number) (λ one. 1) Nothing name_fits trees k h
+  readers_fit : (trees : List NameTree) (k : ℕ) → Having (some "," name) trees k → Fit (All (IsWrittenName fits word number) trees) (sum_by (λ one. 1) trees) (All Nothing trees) k
+  readers_fit trees k h = some_fit fits word number room "," name (IsWrittenName fits word number) (λ one. 1) Nothing name_fits trees k h
 
   abbrev FitComponent : ComponentTree → ℕ → Type 0
   FitComponent tree k = Fit (IsWrittenComponent fits word number tree) (component_nodes tree) (Nothing tree) k
@@ -56,7 +45,7 @@ module _ (fits : ℕ → Type 0) (word : List ℕ → Type 0) (number : ℕ → 
   with_readers : (owner : NameTree) (found : Option (List NameTree)) (i j : ℕ) → Fit (IsWrittenName fits word number owner) 1 (Nothing owner) i → Having readers found j → FitComponent (component_of owner found) (i + j)
   unfolding readers
   with_readers owner found i j front (inl h) =
-      let inner = from_after fits word number room kinds.Colon (some kinds.Comma name) h.0 j h.1 in
+      let inner = from_after fits word number room ":" (some "," name) h.0 j h.1 in
       let others = readers_fit h.0 inner.0 inner.1 in
       subst (λ (o : Option (List NameTree)). FitComponent (component_of owner o) (i + j)) (sym h.2) (record {
         written = (front.written, others.written);
@@ -76,16 +65,16 @@ module _ (fits : ℕ → Type 0) (word : List ℕ → Type 0) (number : ℕ → 
       let both = h.1 in
       subst (λ t. FitComponent t k) (sym h.2) (subst (FitComponent (component_of h.0.0 h.0.1)) (sym both.4) (with_readers h.0.0 h.0.1 both.0 both.1 (name_fits h.0.0 both.0 both.2) both.3))
 
-  components_fit : (trees : List ComponentTree) (k : ℕ) → Having (some kinds.Semicolon component) trees k → Fit (All (IsWrittenComponent fits word number) trees) (sum_by component_nodes trees) (All Nothing trees) k
+  components_fit : (trees : List ComponentTree) (k : ℕ) → Having (some ";" component) trees k → Fit (All (IsWrittenComponent fits word number) trees) (sum_by component_nodes trees) (All Nothing trees) k
   components_fit trees k h =
-      some_fit fits word number room kinds.Semicolon component (IsWrittenComponent fits word number) component_nodes Nothing component_fits trees k h
+      some_fit fits word number room ";" component (IsWrittenComponent fits word number) component_nodes Nothing component_fits trees k h
 
   pub label_fits : (tree : LabelTree) (k : ℕ) → Having label tree k → Fit (IsWrittenLabel fits word number tree) (1 + label_nodes tree) (Nothing tree) k
   unfolding label
   label_fits tree k h =
-      let inner = from_before fits word number room (at kinds.OpenBrace · some kinds.Semicolon component) kinds.CloseBrace h.0 k h.1 in
+      let inner = from_before fits word number room (at "{" · some ";" component) "}" h.0 k h.1 in
       let both = inner.1 in
-      let here = from_at fits word number room kinds.OpenBrace h.0.0 both.0 both.2 in
+      let here = from_at fits word number room "{" h.0.0 both.0 both.2 in
       let list = components_fit h.0.1 both.1 both.3 in
       subst (λ t. Fit (IsWrittenLabel fits word number t) (1 + label_nodes t) (Nothing t) k) (sym h.2) (record {
         written = (here.0, list.written);
@@ -119,8 +108,8 @@ module _ (fits : ℕ → Type 0) (word : List ℕ → Type 0) (number : ℕ → 
   pub size_fits : (tree : SizeTree) (k : ℕ) → Having size tree k → Fit (IsWrittenSize fits word number tree) 3 (Nothing tree) k
   unfolding size
   size_fits tree k h =
-      let front = from_before fits word number room (kinds.OpenBracket ▸ integer) kinds.CloseBracket h.0 k h.1 in
-      let inner = from_after fits word number room kinds.OpenBracket integer h.0 front.0 front.1 in
+      let front = from_before fits word number room ("[" ▸ integer) "]" h.0 k h.1 in
+      let inner = from_after fits word number room "[" integer h.0 front.0 front.1 in
       let here = integer_fits h.0 inner.0 inner.1 in
       subst (λ t. Fit (IsWrittenSize fits word number t) 3 (Nothing t) k) (sym h.2) (record {
         written = (here.0, here.1);

@@ -1,8 +1,7 @@
 -- Statements and blocks fit, and so do the trees of all symbols.
+use Prim.Native.String.{String}
 use Rattle.std.proofs.Common.{◌≡◌, ℕ, ◌+◌, ◌<◌, ◌≤◌, List, [], ◌∷◌, sym, subst, inl, inr, ⊎_elim, arith}
 use Rattle.std.specs.Prelude.{Option, None, Some}
-use Rattle.lexer.specs.declared.token.Kind.{Kind}
-use Rattle.lexer.specs.declared.token.Kind.TheVariants as kinds
 use Rattle.syntax.specs.Form.{Form, level, ◌·◌, ◌or◌, only, ◌gives◌}
 use Rattle.syntax.specs.Grammar.{at, ◌▸◌, ◌◂◌, base, name, index, expression, call, right, size, block, condition, catch, statement, production, optional, label}
 use Rattle.parser.specs.Parts.{operand_of, declare, declare_array, assign, assign_element, call_statement, catches, receive, send, conditional, while_statement, break_statement, continue_statement, throw_statement, return_statement, attempt, CatchTree}
@@ -49,25 +48,25 @@ module _ (fits : ℕ → Type 0) (word : List ℕ → Type 0) (number : ℕ → 
       })
 
   -- a keyword and a name
-  keyed : (kind : Kind) (pair : ℕ × NameTree) (k : ℕ) → Having (at kind · name) pair k → fits pair.0 × IsWrittenName fits word number pair.1 × (2 ≤ k)
-  keyed kind pair k h =
-      let keyword = from_at fits word number room kind pair.0 h.0 h.2 in
+  keyed : (text : String) (pair : ℕ × NameTree) (k : ℕ) → Having (at text · name) pair k → fits pair.0 × IsWrittenName fits word number pair.1 × (2 ≤ k)
+  keyed text pair k h =
+      let keyword = from_at fits word number room text pair.0 h.0 h.2 in
       let named = name_fits fits word number room pair.1 h.1 h.3 in
       (keyword.0, named.written, omega (arith, keyword.1, named.few, h.4))
 
   -- a keyword and two forms
-  keyed_two : {A B : Type 0} (kind : Kind) (F : Form A) (G : Form B) (trees : (ℕ × A) × B) (k : ℕ) → Having (at kind · F · G) trees k
+  keyed_two : {A B : Type 0} (text : String) (F : Form A) (G : Form B) (trees : (ℕ × A) × B) (k : ℕ) → Having (at text · F · G) trees k
       → fits trees.0.0 × (i : ℕ) × Having F trees.0.1 i × (j : ℕ) × Having G trees.1 j × (1 + (i + j) ≤ k)
-  keyed_two kind F G trees k h =
+  keyed_two text F G trees k h =
       let front = h.2 in
-      let keyword = from_at fits word number room kind trees.0.0 front.0 front.2 in
+      let keyword = from_at fits word number room text trees.0.0 front.0 front.2 in
       (keyword.0, front.1, front.3, h.1, h.3, omega (arith, keyword.1, front.4, h.4))
 
   pub right_fits : (tree : RightTree) (k : ℕ) → Having right tree k → FitRight tree k
   unfolding right
   right_fits tree k h = elim h [
     | inl one ↦
-        let both = keyed kinds.Receive one.0 k one.1 in
+        let both = keyed "receive" one.0 k one.1 in
         subst (λ t. FitRight t k) (sym one.2) (record { written = (both.0, both.1); few = both.2; nested = tt })
     | inr h ↦ elim h [
       | inl one ↦
@@ -82,7 +81,7 @@ module _ (fits : ℕ → Type 0) (word : List ℕ → Type 0) (number : ℕ → 
   pub block_fits : (tree : BlockTree) (k : ℕ) → Having block tree k → FitBlock tree k
   unfolding block
   block_fits tree k h =
-      let front = from_before fits word number room (level (only kinds.OpenBrace) Statements) kinds.CloseBrace h.0 k h.1 in
+      let front = from_before fits word number room (level (only "{") Statements) "}" h.0 k h.1 in
       let inner = front.1.3 in
       subst (λ t. FitBlock t k) (sym h.2) (record {
         written = (front.1.2.place, inner.written);
@@ -93,8 +92,8 @@ module _ (fits : ℕ → Type 0) (word : List ℕ → Type 0) (number : ℕ → 
   condition_fits : (tree : ExpressionTree) (k : ℕ) → Having condition tree k → Fit (IsWrittenExpression fits word number tree) (2 + expression_nodes tree) (IsNestedExpression room tree) k
   unfolding condition
   condition_fits tree k h =
-      let front = from_before fits word number room (kinds.OpenParenthesis ▸ expression) kinds.CloseParenthesis tree k h in
-      let inner = from_after fits word number room kinds.OpenParenthesis expression tree front.0 front.1 in
+      let front = from_before fits word number room ("(" ▸ expression) ")" tree k h in
+      let inner = from_after fits word number room "(" expression tree front.0 front.1 in
       let one = expression_fits fits word number room tree inner.0 inner.1 in
       record { written = one.written; few = omega (arith, one.few, inner.2, front.2); nested = one.nested }
 
@@ -102,14 +101,14 @@ module _ (fits : ℕ → Type 0) (word : List ℕ → Type 0) (number : ℕ → 
   declare_fits : (tree : StatementTree) (k : ℕ) → Having declare tree k → FitStatement tree k
   unfolding declare
   declare_fits tree k h =
-      let line = from_before fits word number room (base · optional label · name · kinds.Assign ▸ right) kinds.Semicolon h.0 k h.1 in
+      let line = from_before fits word number room (base · optional label · name · "=" ▸ right) ";" h.0 k h.1 in
       let a = line.1 in
       let b = a.2 in
       let c = b.2 in
       let typed = base_fits fits word number room h.0.0.0.0 c.0 c.2 in
       let labelled = optional_label_fits fits word number room h.0.0.0.1 c.1 c.3 in
       let named = name_fits fits word number room h.0.0.1 b.1 b.3 in
-      let inner = from_after fits word number room kinds.Assign right h.0.1 a.1 a.3 in
+      let inner = from_after fits word number room "=" right h.0.1 a.1 a.3 in
       let value = right_fits h.0.1 inner.0 inner.1 in
       subst (λ t. FitStatement t k) (sym h.2) (record {
         written = (typed.0, labelled.written, named.written, value.written);
@@ -120,7 +119,7 @@ module _ (fits : ℕ → Type 0) (word : List ℕ → Type 0) (number : ℕ → 
   declare_array_fits : (tree : StatementTree) (k : ℕ) → Having declare_array tree k → FitStatement tree k
   unfolding declare_array
   declare_array_fits tree k h =
-      let line = from_before fits word number room (base · optional label · name · size) kinds.Semicolon h.0 k h.1 in
+      let line = from_before fits word number room (base · optional label · name · size) ";" h.0 k h.1 in
       let a = line.1 in
       let b = a.2 in
       let c = b.2 in
@@ -138,10 +137,10 @@ module _ (fits : ℕ → Type 0) (word : List ℕ → Type 0) (number : ℕ → 
   assign_fits : (tree : StatementTree) (k : ℕ) → Having assign tree k → FitStatement tree k
   unfolding assign
   assign_fits tree k h =
-      let line = from_before fits word number room (name · kinds.Assign ▸ right) kinds.Semicolon h.0 k h.1 in
+      let line = from_before fits word number room (name · "=" ▸ right) ";" h.0 k h.1 in
       let both = line.1 in
       let named = name_fits fits word number room h.0.0 both.0 both.2 in
-      let inner = from_after fits word number room kinds.Assign right h.0.1 both.1 both.3 in
+      let inner = from_after fits word number room "=" right h.0.1 both.1 both.3 in
       let value = right_fits h.0.1 inner.0 inner.1 in
       subst (λ t. FitStatement t k) (sym h.2) (record {
         written = (named.written, value.written);
@@ -152,11 +151,11 @@ module _ (fits : ℕ → Type 0) (word : List ℕ → Type 0) (number : ℕ → 
   assign_element_fits : (tree : StatementTree) (k : ℕ) → Having assign_element tree k → FitStatement tree k
   unfolding assign_element
   assign_element_fits tree k h =
-      let line = from_before fits word number room (name · (index ◂ kinds.Assign · expression)) kinds.Semicolon h.0 k h.1 in
+      let line = from_before fits word number room (name · (index ◂ "=" · expression)) ";" h.0 k h.1 in
       let both = line.1 in
       let named = name_fits fits word number room h.0.0 both.0 both.2 in
       let pair = both.3 in
-      let front = from_before fits word number room index kinds.Assign h.0.1.0 pair.0 pair.2 in
+      let front = from_before fits word number room index "=" h.0.1.0 pair.0 pair.2 in
       let index = index_fits fits word number room h.0.1.0 front.0 front.1 in
       let value = expression_fits fits word number room h.0.1.1 pair.1 pair.3 in
       subst (λ t. FitStatement t k) (sym h.2) (record {
@@ -168,24 +167,24 @@ module _ (fits : ℕ → Type 0) (word : List ℕ → Type 0) (number : ℕ → 
   call_statement_fits : (tree : StatementTree) (k : ℕ) → Having call_statement tree k → FitStatement tree k
   unfolding call_statement
   call_statement_fits tree k h =
-      let line = from_before fits word number room call kinds.Semicolon h.0 k h.1 in
+      let line = from_before fits word number room call ";" h.0 k h.1 in
       let called = call_fits h.0 line.0 line.1 in
       subst (λ t. FitStatement t k) (sym h.2) (record { written = called.written; few = omega (arith, called.few, line.2); nested = called.nested })
 
   receive_fits : (tree : StatementTree) (k : ℕ) → Having receive tree k → FitStatement tree k
   unfolding receive
   receive_fits tree k h =
-      let line = from_before fits word number room (at kinds.Receive · name) kinds.Semicolon h.0 k h.1 in
-      let both = keyed kinds.Receive h.0 line.0 line.1 in
+      let line = from_before fits word number room (at "receive" · name) ";" h.0 k h.1 in
+      let both = keyed "receive" h.0 line.0 line.1 in
       subst (λ t. FitStatement t k) (sym h.2) (record { written = (both.0, both.1); few = omega (arith, both.2, line.2); nested = tt })
 
   send_fits : (tree : StatementTree) (k : ℕ) → Having send tree k → FitStatement tree k
   unfolding send
   send_fits tree k h =
-      let line = from_before fits word number room (at kinds.Send · name ◂ kinds.Comma · expression) kinds.Semicolon h.0 k h.1 in
+      let line = from_before fits word number room (at "send" · name ◂ "," · expression) ";" h.0 k h.1 in
       let a = line.1 in
-      let front = from_before fits word number room (at kinds.Send · name) kinds.Comma h.0.0 a.0 a.2 in
-      let both = keyed kinds.Send h.0.0 front.0 front.1 in
+      let front = from_before fits word number room (at "send" · name) "," h.0.0 a.0 a.2 in
+      let both = keyed "send" h.0.0 front.0 front.1 in
       let value = expression_fits fits word number room h.0.1 a.1 a.3 in
       subst (λ t. FitStatement t k) (sym h.2) (record {
         written = (both.0, both.1, value.written);
@@ -205,9 +204,9 @@ module _ (fits : ℕ → Type 0) (word : List ℕ → Type 0) (number : ℕ → 
   abbrev FitOtherwise : Option BlockTree → ℕ → Type 0
   FitOtherwise tree k = Fit (OtherwiseWritten tree) (otherwise_nodes tree) (OtherwiseNested tree) k
 
-  otherwise_fits : (tree : Option BlockTree) (k : ℕ) → Having (optional (kinds.Else ▸ block)) tree k → FitOtherwise tree k
+  otherwise_fits : (tree : Option BlockTree) (k : ℕ) → Having (optional ("else" ▸ block)) tree k → FitOtherwise tree k
   otherwise_fits tree k (inl h) =
-      let inner = from_after fits word number room kinds.Else block h.0 k h.1 in
+      let inner = from_after fits word number room "else" block h.0 k h.1 in
       let body = block_fits h.0 inner.0 inner.1 in
       subst (λ t. FitOtherwise t k) (sym h.2) (record { written = body.written; few = omega (arith, body.few, inner.2); nested = body.nested })
   otherwise_fits tree k (inr h) =
@@ -226,7 +225,7 @@ module _ (fits : ℕ → Type 0) (word : List ℕ → Type 0) (number : ℕ → 
   unfolding conditional
   conditional_fits tree k h =
       let both = h.1 in
-      let front = keyed_two kinds.If condition block h.0.0 both.0 both.2 in
+      let front = keyed_two "if" condition block h.0.0 both.0 both.2 in
       let test = condition_fits h.0.0.0.1 front.1 front.2 in
       let body = block_fits h.0.0.1 front.3 front.4 in
       let other = otherwise_fits h.0.1 both.1 both.3 in
@@ -239,7 +238,7 @@ module _ (fits : ℕ → Type 0) (word : List ℕ → Type 0) (number : ℕ → 
   while_fits : (tree : StatementTree) (k : ℕ) → Having while_statement tree k → FitStatement tree k
   unfolding while_statement
   while_fits tree k h =
-      let parts = keyed_two kinds.While condition block h.0 k h.1 in
+      let parts = keyed_two "while" condition block h.0 k h.1 in
       let test = condition_fits h.0.0.1 parts.1 parts.2 in
       let body = block_fits h.0.1 parts.3 parts.4 in
       subst (λ t. FitStatement t k) (sym h.2) (record {
@@ -251,22 +250,22 @@ module _ (fits : ℕ → Type 0) (word : List ℕ → Type 0) (number : ℕ → 
   break_fits : (tree : StatementTree) (k : ℕ) → Having break_statement tree k → FitStatement tree k
   unfolding break_statement
   break_fits tree k h =
-      let line = from_before fits word number room (at kinds.Break) kinds.Semicolon h.0 k h.1 in
-      let keyword = from_at fits word number room kinds.Break h.0 line.0 line.1 in
+      let line = from_before fits word number room (at "break") ";" h.0 k h.1 in
+      let keyword = from_at fits word number room "break" h.0 line.0 line.1 in
       subst (λ t. FitStatement t k) (sym h.2) (record { written = keyword.0; few = omega (arith, keyword.1, line.2); nested = tt })
 
   continue_fits : (tree : StatementTree) (k : ℕ) → Having continue_statement tree k → FitStatement tree k
   unfolding continue_statement
   continue_fits tree k h =
-      let line = from_before fits word number room (at kinds.Continue) kinds.Semicolon h.0 k h.1 in
-      let keyword = from_at fits word number room kinds.Continue h.0 line.0 line.1 in
+      let line = from_before fits word number room (at "continue") ";" h.0 k h.1 in
+      let keyword = from_at fits word number room "continue" h.0 line.0 line.1 in
       subst (λ t. FitStatement t k) (sym h.2) (record { written = keyword.0; few = omega (arith, keyword.1, line.2); nested = tt })
 
   throw_fits : (tree : StatementTree) (k : ℕ) → Having throw_statement tree k → FitStatement tree k
   unfolding throw_statement
   throw_fits tree k h =
-      let line = from_before fits word number room (at kinds.Throw · name) kinds.Semicolon h.0 k h.1 in
-      let both = keyed kinds.Throw h.0 line.0 line.1 in
+      let line = from_before fits word number room (at "throw" · name) ";" h.0 k h.1 in
+      let both = keyed "throw" h.0 line.0 line.1 in
       subst (λ t. FitStatement t k) (sym h.2) (record { written = (both.0, both.1); few = omega (arith, both.2, line.2); nested = tt })
 
   abbrev FitReturned : Option ExpressionTree → ℕ → Type 0
@@ -283,9 +282,9 @@ module _ (fits : ℕ → Type 0) (word : List ℕ → Type 0) (number : ℕ → 
   return_fits : (tree : StatementTree) (k : ℕ) → Having return_statement tree k → FitStatement tree k
   unfolding return_statement
   return_fits tree k h =
-      let line = from_before fits word number room (at kinds.Return · optional expression) kinds.Semicolon h.0 k h.1 in
+      let line = from_before fits word number room (at "return" · optional expression) ";" h.0 k h.1 in
       let both = line.1 in
-      let keyword = from_at fits word number room kinds.Return h.0.0 both.0 both.2 in
+      let keyword = from_at fits word number room "return" h.0.0 both.0 both.2 in
       let value = returned_fits h.0.1 both.1 both.3 in
       subst (λ t. FitStatement t k) (sym h.2) (record {
         written = (keyword.0, value.written);
@@ -301,10 +300,10 @@ module _ (fits : ℕ → Type 0) (word : List ℕ → Type 0) (number : ℕ → 
   unfolding catch
   catch_fits tree k h =
       let a = h.1 in
-      let close = from_before fits word number room (at kinds.Catch ◂ kinds.OpenParenthesis · name) kinds.CloseParenthesis h.0.0 a.0 a.2 in
+      let close = from_before fits word number room (at "catch" ◂ "(" · name) ")" h.0.0 a.0 a.2 in
       let b = close.1 in
-      let front = from_before fits word number room (at kinds.Catch) kinds.OpenParenthesis h.0.0.0 b.0 b.2 in
-      let keyword = from_at fits word number room kinds.Catch h.0.0.0 front.0 front.1 in
+      let front = from_before fits word number room (at "catch") "(" h.0.0.0 b.0 b.2 in
+      let keyword = from_at fits word number room "catch" h.0.0.0 front.0 front.1 in
       let named = name_fits fits word number room h.0.0.1 b.1 b.3 in
       let body = block_fits h.0.1 a.1 a.3 in
       subst (λ t. FitCatch t k) (sym h.2) (record {
@@ -337,7 +336,7 @@ module _ (fits : ℕ → Type 0) (word : List ℕ → Type 0) (number : ℕ → 
   attempt_fits : (tree : StatementTree) (k : ℕ) → Having attempt tree k → FitStatement tree k
   unfolding attempt
   attempt_fits tree k h =
-      let parts = keyed_two kinds.Try block catches h.0 k h.1 in
+      let parts = keyed_two "try" block catches h.0 k h.1 in
       let body = block_fits h.0.0.1 parts.1 parts.2 in
       let list = catches_fit h.0.1 parts.3 parts.4 in
       subst (λ t. FitStatement t k) (sym h.2) (record {

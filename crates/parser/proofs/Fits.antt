@@ -1,11 +1,12 @@
 -- Trees that fit: they are written, have no more nodes than tokens, and are nested in the room; and what a form's tokens say of
 -- its tree, form by form.
+use Prim.Native.String.{String}
+use Rattle.lexer.specs.TokenKind.{TokenKind, word_of}
+use Rattle.lexer.specs.TokenKind as token_kinds
 use Rattle.std.proofs.Common.{◌≡◌, ℕ, pred, ◌+◌, ◌≤◌, ◌<◌, List, [], ◌∷◌, sym, subst, inl, inr, sum_by, arith}
 use Rattle.std.specs.List.{All}
 use Rattle.std.proofs.lemmas.List.Elements.{All-nil, All-cons}
 use Rattle.std.proofs.lemmas.List.Sums.{sum_by-cons}
-use Rattle.lexer.specs.declared.token.Kind.{Kind}
-use Rattle.lexer.specs.declared.token.Kind.TheVariants as kinds
 use Rattle.lexer.specs.Terminal.{Terminal}
 use Rattle.syntax.specs.declared.tree.BinaryOperator.{BinaryOperator}
 use Rattle.syntax.specs.Form.{Form}
@@ -25,7 +26,7 @@ pub record Fit (W : Type 0) (nodes : ℕ) (D : Type 0) (k : ℕ) : Type 0 where
 -- a token at a place that fits, whose text fits where it is a name, and whose value fits
 pub record Fitting (fits : ℕ → Type 0) (word : List ℕ → Type 0) (number : ℕ → Type 0) (token : Terminal) : Type 0 where
   pub place : fits token.start
-  pub named : token.kind ≡ kinds.Name → word token.text
+  pub named : token.kind ≡ token_kinds.Name → word token.text
   pub valued : number (value_of token.kind)
 
 -- operators with their right operands
@@ -69,21 +70,21 @@ module _ (fits : ℕ → Type 0) (word : List ℕ → Type 0) (number : ℕ → 
   Has room F tree k = Holds (Fitting fits word number) Fits room F tree k
 
   module _ (room : ℕ) where
-    pub from_key : (kind : Kind) (token : Terminal) (k : ℕ) → Has room (key kind) token k → Fitting fits word number token × (k ≡ 1)
-    from_key kind token k h = (subst (Fitting fits word number) (sym h.2) h.1.0, h.1.2)
+    pub from_key : (text : String) (token : Terminal) (k : ℕ) → Has room (key text) token k → Fitting fits word number token × (k ≡ 1)
+    from_key text token k h = (subst (Fitting fits word number) (sym h.2) h.1.0, h.1.2)
 
-    pub from_at : (kind : Kind) (place k : ℕ) → Has room (at kind) place k → fits place × (k ≡ 1)
-    from_at kind place k h = (subst fits (sym h.2) h.1.0.place, h.1.2)
+    pub from_at : (text : String) (place k : ℕ) → Has room (at text) place k → fits place × (k ≡ 1)
+    from_at text place k h = (subst fits (sym h.2) h.1.0.place, h.1.2)
 
-    pub from_after : {A : Type 0} (kind : Kind) (F : Form A) (tree : A) (k : ℕ) → Has room (kind ▸ F) tree k → (j : ℕ) × Has room F tree j × (k ≡ 1 + j)
-    from_after kind F tree k h =
+    pub from_after : {A : Type 0} (text : String) (F : Form A) (tree : A) (k : ℕ) → Has room (text ▸ F) tree k → (j : ℕ) × Has room F tree j × (k ≡ 1 + j)
+    from_after text F tree k h =
         let both = h.1 in
-        (both.1, subst (λ t. Has room F t both.1) (sym h.2) both.3, omega (arith, both.4, (from_key kind h.0.0 both.0 both.2).1))
+        (both.1, subst (λ t. Has room F t both.1) (sym h.2) both.3, omega (arith, both.4, (from_key text h.0.0 both.0 both.2).1))
 
-    pub from_before : {A : Type 0} (F : Form A) (kind : Kind) (tree : A) (k : ℕ) → Has room (F ◂ kind) tree k → (i : ℕ) × Has room F tree i × (k ≡ i + 1)
-    from_before F kind tree k h =
+    pub from_before : {A : Type 0} (F : Form A) (text : String) (tree : A) (k : ℕ) → Has room (F ◂ text) tree k → (i : ℕ) × Has room F tree i × (k ≡ i + 1)
+    from_before F text tree k h =
         let both = h.1 in
-        (both.0, subst (λ t. Has room F t both.0) (sym h.2) both.2, omega (arith, both.4, (from_key kind h.0.1 both.1 both.3).1))
+        (both.0, subst (λ t. Has room F t both.0) (sym h.2) both.2, omega (arith, both.4, (from_key text h.0.1 both.1 both.3).1))
 
     -- lists, where each tree of a form fits
     module _ {A : Type 0} (F : Form A) (W : A → Type 0) (N : A → ℕ) (D : A → Type 0) (f : (tree : A) (k : ℕ) → Has room F tree k → Fit (W tree) (N tree) (D tree) k) where
@@ -98,25 +99,25 @@ module _ (fits : ℕ → Type 0) (word : List ℕ → Type 0) (number : ℕ → 
             nested = All-cons D tree trees one.nested others.nested;
           }
 
-    module _ {A : Type 0} (kind : Kind) (F : Form A) (W : A → Type 0) (N : A → ℕ) (D : A → Type 0) (f : (tree : A) (k : ℕ) → Has room F tree k → Fit (W tree) (N tree) (D tree) k) where
-      parted_fits : (tree : A) (k : ℕ) → Has room (kind ▸ F) tree k → Fit (W tree) (N tree) (D tree) k
+    module _ {A : Type 0} (text : String) (F : Form A) (W : A → Type 0) (N : A → ℕ) (D : A → Type 0) (f : (tree : A) (k : ℕ) → Has room F tree k → Fit (W tree) (N tree) (D tree) k) where
+      parted_fits : (tree : A) (k : ℕ) → Has room (text ▸ F) tree k → Fit (W tree) (N tree) (D tree) k
       parted_fits tree k h =
-          let inner = from_after kind F tree k h in
+          let inner = from_after text F tree k h in
           let one = f tree inner.0 inner.1 in
           record { written = one.written; few = omega (arith, one.few, inner.2); nested = one.nested }
 
-      pub separated_fits : (trees : List A) (k : ℕ) → Has room (separated kind F) trees k → Fit (All W trees) (sum_by N trees) (All D trees) k
+      pub separated_fits : (trees : List A) (k : ℕ) → Has room (separated text F) trees k → Fit (All W trees) (sum_by N trees) (All D trees) k
       separated_fits trees k h =
           let both = h.1 in
           let one = f h.0.0 both.0 both.2 in
-          let others = each_fits (kind ▸ F) W N D parted_fits h.0.1 both.1 both.3 in
+          let others = each_fits (text ▸ F) W N D parted_fits h.0.1 both.1 both.3 in
           subst (λ list. Fit (All W list) (sum_by N list) (All D list) k) (sym h.2) (record {
             written = All-cons W h.0.0 h.0.1 one.written others.written;
             few = omega (arith, sum_by-cons N h.0.0 h.0.1, one.few, others.few, both.4);
             nested = All-cons D h.0.0 h.0.1 one.nested others.nested;
           })
 
-      pub some_fit : (trees : List A) (k : ℕ) → Has room (some kind F) trees k → Fit (All W trees) (sum_by N trees) (All D trees) k
+      pub some_fit : (trees : List A) (k : ℕ) → Has room (some text F) trees k → Fit (All W trees) (sum_by N trees) (All D trees) k
       some_fit trees k (inl h) = separated_fits trees k h
       some_fit trees k (inr h) =
           subst (λ list. Fit (All W list) (sum_by N list) (All D list) k) (sym h.0) (record { written = All-nil W; few = omega arith; nested = All-nil D })

@@ -1,11 +1,11 @@
 -- What holds of the trees of a form: how many tokens they have, what holds of each token, and that levels are opened in the room.
+use Rattle.lexer.specs.TokenKind.{word_of}
 use Rattle.std.proofs.Common.{◌≡◌, ◌⊎◌, ℕ, zero, suc, pred, ◌+◌, ◌<◌, List, [], ◌∷◌, length, refl, sym, ap, subst, inl, inr, arith}
 use Rattle.std.specs.Prelude.{Option, Some}
 use Rattle.std.specs.List.{All}
 use Rattle.std.proofs.lemmas.List.Elements.{All-head, All-tail}
-use Rattle.lexer.specs.declared.token.Kind.{Kind}
 use Rattle.lexer.specs.Terminal.{Terminal}
-use Rattle.syntax.specs.Form.{Form, give, one_of, level, ◌·◌, ◌or◌, many, ◌gives◌, shape, Phrase, Token, Many, none, more, means}
+use Rattle.syntax.specs.Form.{Form, give, one_of, level, ◌·◌, ◌or◌, many, ◌gives◌, Phrase, Token, Many, none, more, means}
 use Rattle.syntax.specs.Symbol.{Symbol, tree_of}
 use Rattle.syntax.specs.Grammar.{production, within, Spelled}
 use Rattle.parser.proofs.Derivations.{Inside}
@@ -20,7 +20,7 @@ Held = (symbol : Symbol) → ℕ → tree_of symbol → ℕ → Type 0
 
 abbrev pub Holds : (T : Terminal → Type 0) (inside : Held) (room : ℕ) {A : Type 0} → Form A → A → ℕ → Type 0
 Holds T inside room (give value) tree k = (tree ≡ value) × (k ≡ 0)
-Holds T inside room (one_of meaning) found k = T found.0 × (meaning (shape found.0.kind) ≡ Some found.1) × (k ≡ 1)
+Holds T inside room (one_of meaning) found k = T found.0 × (meaning (word_of found.0.kind) ≡ Some found.1) × (k ≡ 1)
 Holds T inside room (level meaning symbol) found k =
     (j : ℕ) × (0 < room) × T found.0 × inside symbol (pred room) found.2 j × (k ≡ 1 + j)
 Holds T inside room (F · G) trees k =
@@ -41,7 +41,7 @@ opens room k (inl h) = h
 opens room k (inr h) = absurd (omega (arith, h))
 
 module _ (T : Terminal → Type 0) (inside : Held) where
-  token_taken : {A : Type 0} (meaning : Kind → Option A) (tokens : List Terminal) (found : Terminal × A) (rest : List Terminal) → Token meaning tokens found rest → All T tokens → T found.0 × All T rest × (length tokens ≡ 1 + length rest)
+  token_taken : {A : Type 0} (meaning : List ℕ → Option A) (tokens : List Terminal) (found : Terminal × A) (rest : List Terminal) → Token meaning tokens found rest → All T tokens → T found.0 × All T rest × (length tokens ≡ 1 + length rest)
   token_taken meaning tokens found rest h all =
       let here = subst (All T) h.stands all in
       (All-head T found.0 rest here, All-tail T found.0 rest here, omega (arith, ap length h.stands))

@@ -1,4 +1,6 @@
 -- What holds of a tree that tokens spell.
+use Rattle.lexer.specs.TokenKind.{TokenKind, word_of}
+use Rattle.lexer.specs.TokenKind as token_kinds
 use Rattle.std.proofs.Common.{ℕ, ◌-◌, ◌≤◌, List, [], length, map, get_or, ap, subst, arith}
 use Rattle.std.specs.List.{All, Contains}
 use Rattle.std.proofs.lemmas.List.{length-map, length-take, length-drop, get_or-map}
@@ -7,8 +9,6 @@ use Rattle.std.proofs.Math.ListN.{drop}
 use Rattle.std.specs.Str.{IsUtf8}
 use Rattle.lexer.proofs.Listed.{listed}
 use Rattle.lexer.specs.Cut.{IsCut}
-use Rattle.lexer.specs.declared.token.Kind.{Kind}
-use Rattle.lexer.specs.declared.token.Kind.TheVariants as kinds
 use Rattle.lexer.specs.Listing as listing
 use Rattle.lexer.specs.Listing.{IsSpelled, IsSliceOf}
 use Rattle.lexer.specs.Terminal.{Terminal}
@@ -50,9 +50,9 @@ spelled_nested tokens tree d = (fits_anyhow tokens tree d).nested
 
 -- ---- tokens with the texts of their kinds
 
-value_small : (kind : Kind) (text : List ℕ) → listing.SpellsToken kind text → IsInteger (value_of kind)
-value_small (kinds.Integer value) text h = h.2
-value_small kinds.Name text h = omega arith
+value_small : (kind : TokenKind) (text : List ℕ) → listing.SpellsToken kind text → IsInteger (value_of kind)
+value_small (token_kinds.Integer value) text h = h.2
+value_small token_kinds.Name text h = omega arith
 value_small _ text h = omega arith
 
 fitting : (fits : ℕ → Type 0) (longest : ℕ) (token : Terminal) → fits token.start → IsSpelled token → IsShort longest token → Fitting fits (IsNameWithin longest) IsInteger token

@@ -2,7 +2,6 @@
 -- of its own, and a form for right sides is put in. Private; the grammar has a production for each statement.
 -- Source: left factoring.
 use Rattle.std.specs.Prelude.{ℕ, List, Option}
-use Rattle.lexer.specs.declared.token.Kind.TheVariants as kinds
 use Rattle.common.specs.declared.base_type.BaseType.{BaseType}
 use Rattle.syntax.specs.Form.{Form, ◌·◌, ◌or◌, ◌gives◌}
 use Rattle.syntax.specs.Grammar.{◌▸◌, ◌◂◌, base, label, name, size, index, expression, arguments, optional, block}
@@ -31,23 +30,23 @@ named_tree name (ArgumentsTree arguments) = CallTree' (record { procedure = name
 -- after the name of a local stands its first value, or its size
 abbrev pub first_with : Form RightTree → Form FirstTree
 first_with value =
-    kinds.Assign ▸ value gives FirstValue
+    "=" ▸ value gives FirstValue
     or size gives FirstSize
 
 abbrev pub declare_with : Form RightTree → Form StatementTree
 declare_with value =
-    base · optional label · name · first_with value ◂ kinds.Semicolon
+    base · optional label · name · first_with value ◂ ";"
     gives λ ((((at, base), label), name), first). local_tree at base label name first
 
 -- after the name that a statement begins with stands a value, an index with a value, or arguments
 abbrev pub after_with : Form RightTree → Form AfterTree
 after_with value =
-    kinds.Assign ▸ value gives AssignedTree
-    or (index ◂ kinds.Assign · expression gives λ (index, value). AtIndexTree index value)
+    "=" ▸ value gives AssignedTree
+    or (index ◂ "=" · expression gives λ (index, value). AtIndexTree index value)
     or arguments gives ArgumentsTree
 
 abbrev pub named_with : Form RightTree → Form StatementTree
-named_with value = name · after_with value ◂ kinds.Semicolon gives λ (name, after). named_tree name after
+named_with value = name · after_with value ◂ ";" gives λ (name, after). named_tree name after
 
 -- a statement with right sides of this form
 abbrev pub statement_with : Form RightTree → Form StatementTree

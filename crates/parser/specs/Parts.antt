@@ -2,8 +2,6 @@
 -- production, as it stands there. Private.
 -- Source: our own.
 use Rattle.std.specs.Prelude.{ℕ, List, ◌∷◌, Option, true}
-use Rattle.lexer.specs.declared.token.Kind.{Kind}
-use Rattle.lexer.specs.declared.token.Kind.TheVariants as kinds
 use Rattle.syntax.specs.declared.line.Line.{Line}
 use Rattle.syntax.specs.declared.tree.BinaryOperator.{BinaryOperator}
 use Rattle.common.specs.declared.operator.Prefix.{Prefix}
@@ -14,17 +12,17 @@ use Rattle.syntax.specs.Tree.{NameTree, ExpressionTree, UnaryTree, StatementTree
 
 -- of labels
 unfoldable pub readers : Form (Option (List NameTree))
-readers = optional (kinds.Colon ▸ some kinds.Comma name)
+readers = optional (":" ▸ some "," name)
 
 -- of expressions
-abbrev pub sign_of : Kind → Option Prefix
+abbrev pub sign_of : List ℕ → Option Prefix
 sign_of = table signs
 
-abbrev pub operator_of : Line → Kind → Option BinaryOperator
+abbrev pub operator_of : Line → List ℕ → Option BinaryOperator
 operator_of line = table (operators_of line)
 
 unfoldable pub parenthesised : Form ExpressionTree
-parenthesised = level (only kinds.OpenParenthesis) Expression ◂ kinds.CloseParenthesis gives λ (parenthesis, opens, inner). inner
+parenthesised = level (only "(") Expression ◂ ")" gives λ (parenthesis, opens, inner). inner
 
 unfoldable pub variable : Form ExpressionTree
 variable = name · optional index gives λ (name, index). variable_tree name index
@@ -42,48 +40,48 @@ operand_of line = chains (after_line line lines) unary
 -- of statements
 unfoldable pub declare : Form StatementTree
 declare =
-    base · optional label · name · kinds.Assign ▸ right ◂ kinds.Semicolon
+    base · optional label · name · "=" ▸ right ◂ ";"
     gives λ ((((at, base), label), name), value). DeclareTree at base label name value
 
 unfoldable pub declare_array : Form StatementTree
 declare_array =
-    base · optional label · name · size ◂ kinds.Semicolon
+    base · optional label · name · size ◂ ";"
     gives λ ((((at, base), label), name), size). DeclareArrayTree at base label name size
 
 unfoldable pub assign : Form StatementTree
-assign = name · kinds.Assign ▸ right ◂ kinds.Semicolon gives λ (target, value). AssignTree target value
+assign = name · "=" ▸ right ◂ ";" gives λ (target, value). AssignTree target value
 
 unfoldable pub assign_element : Form StatementTree
 assign_element =
-    name · (index ◂ kinds.Assign · expression) ◂ kinds.Semicolon
+    name · (index ◂ "=" · expression) ◂ ";"
     gives λ (array, (index, value)). AssignElementTree array index value
 
 unfoldable pub call_statement : Form StatementTree
-call_statement = call ◂ kinds.Semicolon gives CallTree'
+call_statement = call ◂ ";" gives CallTree'
 
 unfoldable pub receive : Form StatementTree
-receive = at kinds.Receive · name ◂ kinds.Semicolon gives λ (at, channel). ReceiveTree at channel
+receive = at "receive" · name ◂ ";" gives λ (at, channel). ReceiveTree at channel
 
 unfoldable pub send : Form StatementTree
-send = at kinds.Send · name ◂ kinds.Comma · expression ◂ kinds.Semicolon gives λ ((at, channel), value). SendTree at channel value
+send = at "send" · name ◂ "," · expression ◂ ";" gives λ ((at, channel), value). SendTree at channel value
 
 unfoldable pub conditional : Form StatementTree
-conditional = at kinds.If · condition · block · optional (kinds.Else ▸ block) gives λ (((at, condition), accepted), otherwise). if_tree at condition accepted otherwise
+conditional = at "if" · condition · block · optional ("else" ▸ block) gives λ (((at, condition), accepted), otherwise). if_tree at condition accepted otherwise
 
 unfoldable pub while_statement : Form StatementTree
-while_statement = at kinds.While · condition · block gives λ ((at, condition), body). WhileTree at condition body
+while_statement = at "while" · condition · block gives λ ((at, condition), body). WhileTree at condition body
 
 unfoldable pub break_statement : Form StatementTree
-break_statement = at kinds.Break ◂ kinds.Semicolon gives BreakTree
+break_statement = at "break" ◂ ";" gives BreakTree
 
 unfoldable pub continue_statement : Form StatementTree
-continue_statement = at kinds.Continue ◂ kinds.Semicolon gives ContinueTree
+continue_statement = at "continue" ◂ ";" gives ContinueTree
 
 unfoldable pub throw_statement : Form StatementTree
-throw_statement = at kinds.Throw · name ◂ kinds.Semicolon gives λ (at, exception). ThrowTree at exception
+throw_statement = at "throw" · name ◂ ";" gives λ (at, exception). ThrowTree at exception
 
 unfoldable pub return_statement : Form StatementTree
-return_statement = at kinds.Return · optional expression ◂ kinds.Semicolon gives λ (at, value). ReturnTree at value
+return_statement = at "return" · optional expression ◂ ";" gives λ (at, value). ReturnTree at value
 
 abbrev pub CatchTree : Type 0
 CatchTree = ℕ × NameTree × BlockTree
@@ -92,17 +90,17 @@ unfoldable pub catches : Form (List CatchTree)
 catches = catch · many catch gives λ (first, others). first ∷ others
 
 unfoldable pub attempt : Form StatementTree
-attempt = at kinds.Try · block · catches gives λ ((at, body), catches). TryTree at body (catches_of catches)
+attempt = at "try" · block · catches gives λ ((at, body), catches). TryTree at body (catches_of catches)
 
 -- of items
 unfoldable pub negative_constant : Form ConstantTree
-negative_constant = at kinds.Minus · integer gives λ (at, (after, value)). IntegerConstant at true value
+negative_constant = at "-" · integer gives λ (at, (after, value)). IntegerConstant at true value
 
 unfoldable pub valued : Form (ℕ × WrittenResultTree)
 valued = base · label gives λ ((at, base), label). (at, ResultTree base label)
 
 unfoldable pub thrown_list : Form (List ThrownTree)
-thrown_list = separated kinds.Comma thrown
+thrown_list = separated "," thrown
 
 unfoldable pub some_throws : Form (List ThrownTree)
-some_throws = key kinds.Throws ◂ kinds.OpenParenthesis · thrown_list ◂ kinds.CloseParenthesis gives λ (word, thrown). thrown
+some_throws = key "throws" ◂ "(" · thrown_list ◂ ")" gives λ (word, thrown). thrown

@@ -1,6 +1,5 @@
 ghost use Rattle.std.specs.Prelude.{◌≡◌, ℕ, map};
 ghost use Rattle.lexer.specs.Terminal.{terminals_of};
-ghost use Rattle.lexer.specs.declared.token.Kind.TheVariants.{Comma, Assign, Colon, Minus};
 ghost use Rattle.syntax.specs.Form.{many, ◌·◌, ◌gives◌};
 ghost use Rattle.syntax.specs.Grammar.{constant, global_value, channel, exception, global, written_result, parameter, thrown, throws, procedure, direction, item, label, separated, ◌▸◌, optional, some};
 ghost use Rattle.parser.specs.Parts.{negative_constant, some_throws, valued, thrown_list};
@@ -69,7 +68,7 @@ impl<'t, 'a> Parser<'t, 'a> {
     #[tactic(auto, unfolding(crate::specs::Reading::read))]
     fn parse_assigned_constant(&mut self) -> Result<Constant, ParseFault>
         ensures { (room : ℕ) → IsRead constant_tree result self.new.rest.now
-            (read room (Assign ▸ constant) (terminals_of self.old.rest.now)) }
+            (read room ("=" ▸ constant) (terminals_of self.old.rest.now)) }
     {
         self.expect(Kind::Assign)?;
         self.parse_constant()
@@ -218,7 +217,7 @@ impl<'t, 'a> Parser<'t, 'a> {
     #[tactic(auto, using(crate::proofs::Items::parameters_reads))]
     fn parse_parameters(&mut self) -> Result<Vec<Parameter<'a>>, ParseFault>
         ensures { (room : ℕ) → IsRead (λ parameters. map parameter_tree parameters.items) result
-            self.new.rest.now (read room (some Comma parameter) (terminals_of self.old.rest.now)) }
+            self.new.rest.now (read room (some "," parameter) (terminals_of self.old.rest.now)) }
     {
         match self.kind() {
             Kind::Int | Kind::Boolean => self.parse_separated(Kind::Comma),
@@ -228,7 +227,7 @@ impl<'t, 'a> Parser<'t, 'a> {
 
     #[tactic(auto, unfolding(crate::specs::Reading::read))]
     fn parse_label_after_colon(&mut self) -> Result<WrittenLabel<'a>, ParseFault>
-        ensures { (room : ℕ) → IsRead label_tree result self.new.rest.now (read room (Colon ▸ label)
+        ensures { (room : ℕ) → IsRead label_tree result self.new.rest.now (read room (":" ▸ label)
             (terminals_of self.old.rest.now)) }
     {
         self.expect(Kind::Colon)?;
@@ -238,7 +237,7 @@ impl<'t, 'a> Parser<'t, 'a> {
     #[tactic(auto, using(crate::proofs::Items::end_label_reads))]
     fn parse_end_label(&mut self) -> Result<Option<WrittenLabel<'a>>, ParseFault>
         ensures { (room : ℕ) → IsRead optional_label_tree result self.new.rest.now
-            (read room (optional (Colon ▸ label)) (terminals_of self.old.rest.now)) }
+            (read room (optional (":" ▸ label)) (terminals_of self.old.rest.now)) }
     {
         if self.is_at(Kind::Colon) {
             let label = self.parse_label_after_colon()?;

@@ -1,6 +1,7 @@
 //! Lists with tokens of a kind between their elements.
 ghost use Rattle.std.specs.Prelude.{ℕ, map};
 ghost use Rattle.lexer.specs.Terminal.{terminals_of};
+ghost use Rattle.lexer.specs.KindOf.{text_of};
 ghost use Rattle.syntax.specs.Form.{Form};
 ghost use Rattle.syntax.specs.Grammar.{separated, ◌▸◌};
 ghost use Rattle.parser.specs.Reading.{IsNoInteger, IsRead, read};
@@ -29,7 +30,7 @@ impl<'t, 'a> Parser<'t, 'a> {
     fn parse_another<T: Listed<'a>>(&mut self, separator: Kind) -> Result<T, ParseFault>
         requires plain { IsNoInteger separator }
         ensures { (room : ℕ) → IsRead T.tree result self.new.rest.now
-            (read room (separator ▸ T.form) (terminals_of self.old.rest.now)) }
+            (read room (text_of separator ▸ T.form) (terminals_of self.old.rest.now)) }
     {
         self.expect(separator)?;
         T::parse(self)
@@ -39,7 +40,7 @@ impl<'t, 'a> Parser<'t, 'a> {
     pub fn parse_separated<T: Listed<'a>>(&mut self, separator: Kind) -> Result<Vec<T>, ParseFault>
         requires plain { IsNoInteger separator }
         ensures { (room : ℕ) → IsRead (λ list. map T.tree list.items) result self.new.rest.now
-            (read room (separated separator T.form) (terminals_of self.old.rest.now)) }
+            (read room (separated (text_of separator) T.form) (terminals_of self.old.rest.now)) }
     {
         let mut list = Vec::new(self.alloc);
         let first = T::parse(self)?;

@@ -1,7 +1,6 @@
 ghost use Rattle.std.specs.Prelude.{◌≡◌, ◌<◌, ◌++◌, ◌∷◌, [], ℕ, IsErr, OnOk, map};
 ghost use Rattle.std.specs.Vec.{vec_capacity, vec_len};
 ghost use Rattle.lexer.specs.Terminal.{terminals_of};
-ghost use Rattle.lexer.specs.declared.token.Kind.TheVariants.{Comma, Else, Assign, OpenParenthesis};
 ghost use Rattle.syntax.specs.Form.{many, ◌·◌, ◌gives◌};
 ghost use Rattle.syntax.specs.Grammar.{expression, arguments, integer, condition, size, block, catch, index, separated, ◌▸◌, ◌◂◌, optional, some};
 ghost use Rattle.parser.specs.Parts.{receive, send, conditional, while_statement, break_statement, continue_statement, throw_statement, return_statement, attempt, catches};
@@ -83,7 +82,7 @@ fn push_statement<'a>(
 impl<'t, 'a> Parser<'t, 'a> {
     #[tactic(auto, unfolding(crate::specs::Reading::read))]
     fn parse_another_expression(&mut self, room: u32) -> Result<Expression<'a>, ParseFault>
-        ensures { IsRead expression_tree result self.new.rest.now (read room (Comma ▸ expression)
+        ensures { IsRead expression_tree result self.new.rest.now (read room ("," ▸ expression)
             (terminals_of self.old.rest.now)) }
     {
         self.expect(Kind::Comma)?;
@@ -93,7 +92,7 @@ impl<'t, 'a> Parser<'t, 'a> {
     /// One expression or more, with commas between them.
     fn parse_some_expressions(&mut self, room: u32) -> Result<Vec<Expression<'a>>, ParseFault>
         ensures { IsRead (λ list. map expression_tree list.items) result self.new.rest.now
-            (read room (separated Comma expression) (terminals_of self.old.rest.now)) }
+            (read room (separated "," expression) (terminals_of self.old.rest.now)) }
     {
         let mut expressions = Vec::new(self.alloc);
         let first = self.parse_expression(room)?;
@@ -275,7 +274,7 @@ impl<'t, 'a> Parser<'t, 'a> {
     #[cycle(statement)]
     #[tactic(auto, unfolding(crate::specs::Reading::read))]
     fn parse_else_block(&mut self, room: u32) -> Result<Block<'a>, ParseFault>
-        ensures { IsRead block_tree result self.new.rest.now (read room (Else ▸ block)
+        ensures { IsRead block_tree result self.new.rest.now (read room ("else" ▸ block)
             (terminals_of self.old.rest.now)) }
     {
         self.expect(Kind::Else)?;
@@ -286,7 +285,7 @@ impl<'t, 'a> Parser<'t, 'a> {
     #[tactic(auto, using(crate::proofs::Blocks::otherwise_reads))]
     fn parse_otherwise(&mut self, room: u32) -> Result<Option<Block<'a>>, ParseFault>
         ensures { IsRead optional_block_tree result self.new.rest.now
-            (read room (optional (Else ▸ block)) (terminals_of self.old.rest.now)) }
+            (read room (optional ("else" ▸ block)) (terminals_of self.old.rest.now)) }
     {
         if self.is_at(Kind::Else) {
             let block = self.parse_else_block(room)?;
@@ -426,7 +425,7 @@ impl<'t, 'a> Parser<'t, 'a> {
     #[tactic(auto, using(crate::proofs::Blocks::expressions_reads))]
     fn parse_expressions(&mut self, room: u32) -> Result<Vec<Expression<'a>>, ParseFault>
         ensures { IsRead (λ list. map expression_tree list.items) result self.new.rest.now
-            (read room (some Comma expression) (terminals_of self.old.rest.now)) }
+            (read room (some "," expression) (terminals_of self.old.rest.now)) }
     {
         if self.is_at_expression() {
             return self.parse_some_expressions(room);
@@ -454,7 +453,7 @@ impl<'t, 'a> Parser<'t, 'a> {
         room: u32,
     ) -> Result<RightSide<'a>, ParseFault>
         ensures { IsRead right_tree result self.new.rest.now (right_after room
-            (name_tree name.entry) (is_at OpenParenthesis (terminals_of self.old.rest.now))
+            (name_tree name.entry) (is_at "(" (terminals_of self.old.rest.now))
             (terminals_of self.old.rest.now)) }
     {
         if self.is_at(Kind::OpenParenthesis) {
@@ -497,7 +496,7 @@ impl<'t, 'a> Parser<'t, 'a> {
     #[inline(always)]
     #[tactic(auto, unfolding(crate::specs::Reading::read))]
     fn parse_assigned(&mut self, room: u32) -> Result<RightSide<'a>, ParseFault>
-        ensures { IsRead right_tree result self.new.rest.now (read room (Assign ▸ right_read)
+        ensures { IsRead right_tree result self.new.rest.now (read room ("=" ▸ right_read)
             (terminals_of self.old.rest.now)) }
     {
         self.expect(Kind::Assign)?;
@@ -553,7 +552,7 @@ impl<'t, 'a> Parser<'t, 'a> {
     #[tactic(auto, unfolding(crate::specs::Reading::read))]
     fn parse_element(&mut self, room: u32) -> Result<(Expression<'a>, Expression<'a>), ParseFault>
         ensures { IsRead (λ pair. AtIndexTree (expression_tree pair.0) (expression_tree pair.1))
-            result self.new.rest.now (read room (index ◂ Assign · expression gives λ pair.
+            result self.new.rest.now (read room (index ◂ "=" · expression gives λ pair.
             AtIndexTree pair.0 pair.1) (terminals_of self.old.rest.now)) }
     {
         let index = self.parse_index(room)?;

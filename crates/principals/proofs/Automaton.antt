@@ -6,6 +6,10 @@ use Rattle.std.proofs.lemmas.Bool.{false≢true, false_from_ne_true}
 use Rattle.std.proofs.lemmas.Option.{none-some, same_Some, some_pair_parts}
 use Rattle.std.proofs.lemmas.Slice.Eq.{bytes_eq-Decides}
 use Rattle.lexer.specs.Terminal.{Terminal, IsTerminated}
+use Rattle.lexer.proofs.Fixed.{coded_kind, one_word}
+use Rattle.lexer.specs.KindOf.{kind_of, code_of}
+use Rattle.lexer.specs.TokenKind as token
+use Rattle.lexer.specs.TokenKind.{word_of}
 use Rattle.lexer.specs.declared.token.Kind.{Kind}
 use Rattle.lexer.specs.declared.token.Kind.TheVariants as kind
 use Rattle.principals.specs.HierarchyText.{Entry, Declares, Relates, IsWord, IsPrincipalName, Nonterminal, Items, Names, Derives, Finish, Declaration, PrincipalRelation, OneMore, Last, IsPrefixOfForm}
@@ -74,30 +78,40 @@ by_kind kind.End text = (λ h. cc, λ h. cc, λ h. refl)
 by_kind _ text = (λ h. cc, λ h. cc, λ h. cc)
 
 role_is_principal : (t : Terminal) → role_of t ≡ Principal → IsWord (codes "principal") t
-role_is_principal t h = by_principal t.kind t.text h
+role_is_principal t h = let parts = by_principal (code_of t.kind) t.text h in (coded_kind t.kind kind.Name parts.0, parts.1)
 
 role_is_acts_for : (t : Terminal) → role_of t ≡ ActsFor → IsWord (codes "actsfor") t
-role_is_acts_for t h = by_acts_for t.kind t.text h
+role_is_acts_for t h = let parts = by_acts_for (code_of t.kind) t.text h in (coded_kind t.kind kind.Name parts.0, parts.1)
 
 role_is_name : (t : Terminal) → role_of t ≡ Name → IsPrincipalName t
 role_is_name t h =
-    let parts = by_name t.kind t.text h in
-    record { name = parts.0; not_principal = parts.1; not_acts_for = parts.2 }
+    let parts = by_name (code_of t.kind) t.text h in
+    record { name = coded_kind t.kind kind.Name parts.0; not_principal = parts.1; not_acts_for = parts.2 }
 
 word_role : (t : Terminal) → IsWord (codes "principal") t → role_of t ≡ Principal
-word_role t h = λ i. role_by (h.0 i) (h.1 i)
+word_role t h = λ i. role_by (code_of (h.0 i)) (h.1 i)
 
 verb_role : (t : Terminal) → IsWord (codes "actsfor") t → role_of t ≡ ActsFor
-verb_role t h = λ i. role_by (h.0 i) (h.1 i)
+verb_role t h = λ i. role_by (code_of (h.0 i)) (h.1 i)
 
 name_role : (t : Terminal) → IsPrincipalName t → role_of t ≡ Name
 name_role t h =
     let not_first : bytes_eq t.text (codes "principal") ≡ false = false_from_ne_true _ (λ e. h.not_principal ((bytes_eq-Decides t.text (codes "principal")).0 e)) in
     let not_second : bytes_eq t.text (codes "actsfor") ≡ false = false_from_ne_true _ (λ e. h.not_acts_for ((bytes_eq-Decides t.text (codes "actsfor")).0 e)) in
-    ap (λ k. role_by k t.text) h.name ∙ (λ i. cond (not_first i) Principal (cond (not_second i) ActsFor Name))
+    ap (λ k. role_by (code_of k) t.text) h.name ∙ (λ i. cond (not_first i) Principal (cond (not_second i) ActsFor Name))
 
-kind_role : (t : Terminal) (k : Kind) (r : TokenRole) → ((text : List ℕ) → role_by k text ≡ r) → t.kind ≡ k → role_of t ≡ r
+kind_role : (t : Terminal) (k : Kind) (r : TokenRole) → ((text : List ℕ) → role_by k text ≡ r) → code_of t.kind ≡ k → role_of t ≡ r
 kind_role t k r by e = ap (λ x. role_by x t.text) e ∙ by t.text
+
+-- a token of a sign
+semicolon_code : (t : Terminal) → word_of t.kind ≡ codes ";" → code_of t.kind ≡ kind.Semicolon
+semicolon_code t e = one_word t.kind kind.Semicolon (λ value h. cc) e
+
+comma_code : (t : Terminal) → word_of t.kind ≡ codes "," → code_of t.kind ≡ kind.Comma
+comma_code t e = one_word t.kind kind.Comma (λ value h. cc) e
+
+sign_is : (t : Terminal) (k : Kind) → code_of t.kind ≡ k → word_of t.kind ≡ word_of (kind_of k)
+sign_is t k e = ap word_of (coded_kind t.kind k e)
 
 -- ---- runs
 
@@ -164,20 +178,20 @@ one s t r after rest es role step h =
     ap (λ o. option_and_then (λ x. onto (finished_entries s t) (run x rest)) o) e ∙ ap (onto (finished_entries s t)) h
 
 pub derived_is_read : {n : Nonterminal} {tokens : List Terminal} {entries : List Entry} → Derives n tokens entries → run (at_start n) tokens ≡ Some (Ended, entries)
-derived_is_read (Finish end h) = one Fresh end End Ended [] [] (kind_role end kind.End End (λ _. refl) h) refl refl
+derived_is_read (Finish end h) = one Fresh end End Ended [] [] (kind_role end kind.End End (λ _. refl) (ap code_of h)) refl refl
 derived_is_read (Declaration word rest entries h d) =
     one Fresh word Principal Declaring rest entries (word_role word h) refl (derived_is_read d)
 derived_is_read (PrincipalRelation left word right semicolon rest entries l w r s d) =
     one Fresh left Name (Subject left) (word ∷ right ∷ semicolon ∷ rest) (Relates left right ∷ entries) (name_role left l) refl
     (one (Subject left) word ActsFor (Verb left) (right ∷ semicolon ∷ rest) (Relates left right ∷ entries) (verb_role word w) refl
     (one (Verb left) right Name Complete (semicolon ∷ rest) entries (name_role right r) refl
-    (one Complete semicolon Semicolon Fresh rest entries (kind_role semicolon kind.Semicolon Semicolon (λ _. refl) s) refl (derived_is_read d))))
+    (one Complete semicolon Semicolon Fresh rest entries (kind_role semicolon kind.Semicolon Semicolon (λ _. refl) (semicolon_code semicolon s)) refl (derived_is_read d))))
 derived_is_read (OneMore name comma rest entries n c d) =
     one Declaring name Name Listed (comma ∷ rest) entries (name_role name n) refl
-    (one Listed comma Comma Declaring rest entries (kind_role comma kind.Comma Comma (λ _. refl) c) refl (derived_is_read d))
+    (one Listed comma Comma Declaring rest entries (kind_role comma kind.Comma Comma (λ _. refl) (comma_code comma c)) refl (derived_is_read d))
 derived_is_read (Last name semicolon rest entries n s d) =
     one Declaring name Name Listed (semicolon ∷ rest) entries (name_role name n) refl
-    (one Listed semicolon Semicolon Fresh rest entries (kind_role semicolon kind.Semicolon Semicolon (λ _. refl) s) refl (derived_is_read d))
+    (one Listed semicolon Semicolon Fresh rest entries (kind_role semicolon kind.Semicolon Semicolon (λ _. refl) (semicolon_code semicolon s)) refl (derived_is_read d))
 
 -- ---- what is read is derived
 
@@ -190,7 +204,7 @@ Open (Subject left) tokens entries = IsPrincipalName left → Derives Items (lef
 Open (Verb left) tokens entries = (word : Terminal) → IsPrincipalName left → IsWord (codes "actsfor") word → Derives Items (left ∷ word ∷ tokens) entries
 Open Complete tokens entries = (left word right : Terminal) → IsPrincipalName left → IsWord (codes "actsfor") word → IsPrincipalName right →
     Derives Items (left ∷ word ∷ right ∷ tokens) (Relates left right ∷ entries)
-Open Ended tokens entries = (end : Terminal) → end.kind ≡ kind.End → Derives Items (end ∷ tokens) entries
+Open Ended tokens entries = (end : Terminal) → end.kind ≡ token.End → Derives Items (end ∷ tokens) entries
 
 none : {P : Type 0} (s : ReadingState) → None ≡ Some s → P
 none s h = absurd (none-some s h)
@@ -199,17 +213,17 @@ open_step : (s : ReadingState) (t : Terminal) (r : TokenRole) (after : ReadingSt
     Open after rest es → Open s (t ∷ rest) (finished_entries s t ++ es)
 open_step Fresh t Principal after rest es role h o = Declaration t rest es (role_is_principal t role) (subst (λ s. Open s rest es) (sym (same_Some _ _ h)) o)
 open_step Fresh t Name after rest es role h o = subst (λ s. Open s rest es) (sym (same_Some _ _ h)) o (role_is_name t role)
-open_step Fresh t End after rest es role h o = subst (λ s. Open s rest es) (sym (same_Some _ _ h)) o t ((by_kind t.kind t.text).2 role)
+open_step Fresh t End after rest es role h o = subst (λ s. Open s rest es) (sym (same_Some _ _ h)) o t (coded_kind t.kind kind.End ((by_kind (code_of t.kind) t.text).2 role))
 open_step Declaring t Name after rest es role h o = subst (λ s. Open s rest es) (sym (same_Some _ _ h)) o t (role_is_name t role)
 open_step Listed t Comma after rest es role h o =
-    λ name n. OneMore name t rest es n ((by_kind t.kind t.text).0 role) (subst (λ s. Open s rest es) (sym (same_Some _ _ h)) o)
+    λ name n. OneMore name t rest es n (sign_is t kind.Comma ((by_kind (code_of t.kind) t.text).0 role)) (subst (λ s. Open s rest es) (sym (same_Some _ _ h)) o)
 open_step Listed t Semicolon after rest es role h o =
-    λ name n. Last name t rest es n ((by_kind t.kind t.text).1 role) (subst (λ s. Open s rest es) (sym (same_Some _ _ h)) o)
+    λ name n. Last name t rest es n (sign_is t kind.Semicolon ((by_kind (code_of t.kind) t.text).1 role)) (subst (λ s. Open s rest es) (sym (same_Some _ _ h)) o)
 open_step (Subject left) t ActsFor after rest es role h o = λ l. subst (λ s. Open s rest es) (sym (same_Some _ _ h)) o t l (role_is_acts_for t role)
 open_step (Verb left) t Name after rest es role h o =
     λ word l w. subst (λ s. Open s rest es) (sym (same_Some _ _ h)) o left word t l w (role_is_name t role)
 open_step Complete t Semicolon after rest es role h o =
-    λ left word right l w r. PrincipalRelation left word right t rest es l w r ((by_kind t.kind t.text).1 role) (subst (λ s. Open s rest es) (sym (same_Some _ _ h)) o)
+    λ left word right l w r. PrincipalRelation left word right t rest es l w r (sign_is t kind.Semicolon ((by_kind (code_of t.kind) t.text).1 role)) (subst (λ s. Open s rest es) (sym (same_Some _ _ h)) o)
 open_step _ t _ after rest es role h o = none after h
 
 -- a run to the end reads what is open from its state on
@@ -236,16 +250,16 @@ read_is_open (t ∷ rest) s es h =
 -- ---- fronts of texts of the form
 
 any_end : Terminal
-any_end = record { kind = kind.End; text = []; start = 0; end = 0 }
+any_end = record { kind = token.End; text = []; start = 0; end = 0 }
 
 any_semicolon : Terminal
-any_semicolon = record { kind = kind.Semicolon; text = []; start = 0; end = 0 }
+any_semicolon = record { kind = kind_of kind.Semicolon; text = []; start = 0; end = 0 }
 
 any_name : Terminal
-any_name = record { kind = kind.Name; text = codes "A"; start = 0; end = 0 }
+any_name = record { kind = token.Name; text = codes "A"; start = 0; end = 0 }
 
 any_verb : Terminal
-any_verb = record { kind = kind.Name; text = codes "actsfor"; start = 0; end = 0 }
+any_verb = record { kind = token.Name; text = codes "actsfor"; start = 0; end = 0 }
 
 -- every state can be ended
 live : (s : ReadingState) → (more : List Terminal) × (es : List Entry) × (run s more ≡ Some (Ended, es))
@@ -294,7 +308,7 @@ run_ends (t ∷ rest) s end es terminated h =
           let parts = some_pair_parts last.0 end (finished_entries s t ++ last.1) es g in
           ⊎_elim
           (λ marker.
-          let by_end : next_by s End t ≡ Some after = ap (λ r. next_by s r t) (sym (kind_role t kind.End End (λ _. refl) marker.0)) ∙ step in
+          let by_end : next_by s End t ≡ Some after = ap (λ r. next_by s r t) (sym (kind_role t kind.End End (λ _. refl) (ap code_of marker.0))) ∙ step in
           let nothing : Some (after, []) ≡ Some last = ap (run after) (sym marker.1) ∙ k in
           sym parts.0 ∙ sym (some_pair_parts after last.0 [] last.1 nothing).0 ∙ ends_by s t after by_end)
           (λ later. sym parts.0 ∙ run_ends rest after last.0 last.1 later.1 k)

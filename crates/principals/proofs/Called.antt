@@ -10,7 +10,7 @@ use Rattle.lexer.specs.Cut.{Cuts, Nothing, Token, Between, IsCut, terminal_at, s
 use Rattle.lexer.specs.Listing as listing
 use Rattle.lexer.specs.Listing.{IsSliceOf, IsSpelled}
 use Rattle.lexer.specs.Terminal.{Terminal}
-use Rattle.lexer.specs.declared.token.Kind.TheVariants.{Name, End}
+use Rattle.lexer.specs.TokenKind.{Name, End}
 use Rattle.common.specs.declared.limits.TheConstants.{MAX_TEXT}
 use Rattle.principals.specs.ActsFor.{PrincipalHierarchy}
 use Rattle.principals.specs.HierarchyText.{Entry, Nonterminal, Derives, Finish, Declaration, PrincipalRelation, OneMore, Last, IsHierarchyOf}

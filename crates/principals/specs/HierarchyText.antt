@@ -6,7 +6,7 @@ use Rattle.lexer.specs.Cut.{IsCut, IsTextRefused}
 use Rattle.lexer.specs.FirstFault.{AreRefusedAt}
 use Rattle.lexer.specs.Terminal.{Terminal}
 use Rattle.lexer.specs.declared.fault.LexRefusalKind.{LexRefusalKind}
-use Rattle.lexer.specs.declared.token.Kind.TheVariants.{Name, Comma, Semicolon, End}
+use Rattle.lexer.specs.TokenKind.{Name, End, word_of}
 use Rattle.principals.specs.ActsFor.{PrincipalHierarchy, number_of}
 use Rattle.common.specs.declared.refusal.RefusalAt.{RefusalAt}
 use Rattle.principals.specs.declared.fault.HierarchyRefusalKind.{HierarchyRefusalKind}
@@ -42,12 +42,12 @@ pub data Derives : Nonterminal → List Terminal → List Entry → Type 0 where
   Declaration : (word : Terminal) (rest : List Terminal) (entries : List Entry) → IsWord (codes "principal") word
       → Derives Names rest entries → Derives Items (word ∷ rest) entries
   PrincipalRelation : (left word right semicolon : Terminal) (rest : List Terminal) (entries : List Entry)
-      → IsPrincipalName left → IsWord (codes "actsfor") word → IsPrincipalName right → semicolon.kind ≡ Semicolon
+      → IsPrincipalName left → IsWord (codes "actsfor") word → IsPrincipalName right → word_of semicolon.kind ≡ codes ";"
       → Derives Items rest entries → Derives Items (left ∷ word ∷ right ∷ semicolon ∷ rest) (Relates left right ∷ entries)
   OneMore : (name comma : Terminal) (rest : List Terminal) (entries : List Entry) → IsPrincipalName name
-      → comma.kind ≡ Comma → Derives Names rest entries → Derives Names (name ∷ comma ∷ rest) (Declares name ∷ entries)
+      → word_of comma.kind ≡ codes "," → Derives Names rest entries → Derives Names (name ∷ comma ∷ rest) (Declares name ∷ entries)
   Last : (name semicolon : Terminal) (rest : List Terminal) (entries : List Entry) → IsPrincipalName name
-      → semicolon.kind ≡ Semicolon → Derives Items rest entries
+      → word_of semicolon.kind ≡ codes ";" → Derives Items rest entries
       → Derives Names (name ∷ semicolon ∷ rest) (Declares name ∷ entries)
 
 -- the tokens are a prefix of those of some text of this form

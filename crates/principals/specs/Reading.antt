@@ -3,6 +3,7 @@ use Rattle.std.specs.Prelude.{◌≡◌, ℕ, ◌≤◌, length, List, [], ◌�
 use Rattle.common.specs.declared.limits.TheConstants.{MAX_PRINCIPALS}
 use Rattle.principals.specs.ActsFor.{PrincipalHierarchy}
 use Rattle.std.specs.Option.{option_and_then}
+use Rattle.lexer.specs.KindOf.{code_of}
 use Rattle.lexer.specs.Terminal.{Terminal, terminal_of}
 use Rattle.lexer.specs.declared.token.Kind.{Kind}
 use Rattle.lexer.specs.declared.token.Kind.TheVariants.{Name as NameKind, Comma as CommaKind, Semicolon as SemicolonKind, End as EndKind}
@@ -26,7 +27,7 @@ role_by EndKind text = End
 role_by _ text = Other
 
 abbrev pub role_of : Terminal → TokenRole
-role_of token = role_by token.kind token.text
+role_of token = role_by (code_of token.kind) token.text
 
 -- what was read of an item: nothing; what comes before a declared name; the name; the left name of a pair; this and the
 -- word; the whole pair. At last the end marker

@@ -52,6 +52,7 @@ pub(crate) enum ItemState<'a> {
     Ended,
 }
 
+#[tactic(auto, using(lexer::proofs::Fixed::code_kind))]
 fn role_of(token: &Token<'_>) -> TokenRole
     ensures { result ≡ role_of (terminal_of token.now) }
 {

@@ -127,15 +127,6 @@ fn only_written(left: &[Atom]) -> Option<usize>
     Some(number as usize)
 }
 
-// The same row once more.
-fn copy(alloc: Global, row: &Row) -> Result<Row, AllocError>
-    ensures { IfOk result (λ copied. copied ≡ row.now) }
-{
-    let mut copied = Row::new(alloc, row.bound())?;
-    let _grew = copied.join_from(row);
-    Ok(copied)
-}
-
 // A row with some numbers more.
 fn with_all(base: Row, numbers: &[usize]) -> Row
     requires { All (λ n. n < length base) numbers.now }
@@ -155,7 +146,7 @@ fn whole(alloc: Global, kept: &[Kept], number: usize) -> Result<Row, AllocError>
     ensures { IfOk result (λ row. row ≡ bits_of kept.now number) }
 {
     match &kept[number].form {
-        RowForm::Whole(row) => copy(alloc, row),
+        RowForm::Whole(row) => row.copy(alloc),
         RowForm::Beyond(base, more) => {
             let below = whole(alloc, kept, *base)?;
             Ok(with_all(below, more.as_slice()))

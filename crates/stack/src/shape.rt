@@ -1,7 +1,7 @@
 //! The cells of slots that lie one after another.
 
 ghost use Rattle.stack.specs.Slab.{cells_in, cell_index_in, total};
-ghost use Rattle.std.specs.Prelude.{IfOk, OnErr, OnOk, map, replicate, slice_get, ◌++◌, ◌<◌, ◌^◌, ◌≡◌};
+ghost use Rattle.std.specs.Prelude.{IfOk, IsTrue, OnErr, OnOk, Some, is_some, length, map, replicate, slice_get, take, ◌++◌, ◌<◌, ◌^◌, ◌≡◌, ◌≤◌};
 
 use common::BaseType;
 use modules::{Cell, Slot};
@@ -15,37 +15,42 @@ pub struct CellRange {
     pub count: usize,
 }
 
-/// How many cells each of the slots has that lie one after another.
+/// How many cells each of the slots has that lie one after another. Of the slots before the first array only the number is kept: each is a
+/// scalar, whose cell has its own number as an index.
 #[derive(Debug, Drop)]
 pub struct Shape {
+    scalars: usize,
+    // Those from the first array on.
     spans: Vec<CellRange>,
 }
 
 impl Model for Shape {
-    ghost use Rattle.stack.specs.Slab.{IsShape};
-    ghost use Rattle.std.specs.Prelude.{List, map, ℕ};
+    ghost use Rattle.stack.specs.Slab.{IsShape, counts_in};
+    ghost use Rattle.std.specs.Prelude.{List, ℕ};
 
     ghost Value = { List ℕ };
 
-    ghost view = { λ s. map (λ span. span.count) s.spans.items };
+    ghost view = { λ s. counts_in s.scalars s.spans.items };
 
-    ghost invariant = { λ s. IsShape s.spans.items };
+    ghost invariant = { λ s. IsShape s.scalars s.spans.items };
 }
 
 impl Shape {
-    /// The shape of these slots. Precondition: they have fewer than 2^63 cells.
+    /// The shape of these slots. It takes no memory where they are scalars. Precondition: they have fewer than 2^63 cells.
     pub fn of(alloc: Global, slots: &[Slot]) -> Result<Shape, AllocError>
         requires { total (map cells_in slots.now) < 2 ^ 63 }
         ensures { IfOk result (λ shape. shape ≡ map cells_in slots.now) }
     {
-        let mut spans = Vec::with_capacity(alloc, slots.len())?;
-        let mut start: usize = 0;
-        for slot in slots {
+        let scalars = count_scalars(slots);
+        let others = &slots[scalars..];
+        let mut spans = Vec::with_capacity(alloc, others.len())?;
+        let mut start = scalars;
+        for slot in others {
             let count = count_of(*slot);
             spans.push(CellRange { start, count })?;
             start += count;
         }
-        Ok(Shape { spans })
+        Ok(Shape { scalars, spans })
     }
 
     /// How many cells all slots have.
@@ -54,7 +59,7 @@ impl Shape {
     {
         match self.spans.last() {
             Some(span) => span.start + span.count,
-            None => 0,
+            None => self.scalars,
         }
     }
 
@@ -62,7 +67,11 @@ impl Shape {
     pub fn cell_index(&self, slot: u32, index: usize) -> Option<usize>
         ensures { result ≡ cell_index_in self.now slot index }
     {
-        let Some(span) = span_at(&self.spans, slot as usize) else {
+        let slot = slot as usize;
+        if slot < self.scalars {
+            return if index == 0 { Some(slot) } else { None };
+        }
+        let Some(span) = span_at(&self.spans, slot - self.scalars) else {
             return None;
         };
         if index < span.count {
@@ -71,6 +80,35 @@ impl Shape {
             None
         }
     }
+
+    /// Where the first cell of a slot stands. Precondition: there is such a slot, and it has a cell.
+    #[inline(always)]
+    pub fn first_cell(&self, slot: u32) -> usize
+        requires { IsTrue (is_some (cell_index_in self.now slot 0)) }
+        ensures { cell_index_in self.now slot 0 ≡ Some result }
+    {
+        let slot = slot as usize;
+        if slot < self.scalars {
+            slot
+        } else {
+            self.spans[slot - self.scalars].start
+        }
+    }
+}
+
+// How many slots there are before the first array.
+fn count_scalars(slots: &[Slot]) -> usize
+    ensures within { result ≤ length slots.now }
+    ensures scalars { map cells_in (take result slots.now) ≡ replicate result 1 }
+{
+    let mut count = 0;
+    for slot in slots {
+        if let Slot::Array(_, _) = *slot {
+            return count;
+        }
+        count += 1;
+    }
+    count
 }
 
 // The span of a number, if it is there.

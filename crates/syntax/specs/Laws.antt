@@ -3,7 +3,7 @@
 use Rattle.std.specs.Prelude.{◌≡◌, ℕ, ◌≤◌, Bool, List, [], ◌∷◌, length, map, Some, All, Contains}
 use Rattle.lexer.specs.Listing.{IsSpelled}
 use Rattle.lexer.specs.Terminal.{Terminal, IsTerminated}
-use Rattle.lexer.specs.declared.token.Kind.{Kind}
+use Rattle.lexer.specs.TokenKind.{TokenKind, word_of}
 use Rattle.syntax.specs.Form.{Form, table}
 use Rattle.syntax.specs.Grammar.{SpellsProgram, Spelled, base, direction, truth, signs, operators_of, lines}
 use Rattle.syntax.specs.Nesting.{IsNested}
@@ -51,8 +51,8 @@ SpellsAlone F token tree = Spelled F 0 0 (token ∷ []) (token.start, tree) []
 -- the grammar leaves nothing out: it has each line, and each operator, base type, truth value and direction has a token
 pub record EachIsThere : Type 0 where
   pub line : (line : Line) → Contains lines line
-  pub binary : (operator : BinaryOperator) → (line : Line) × (kind : Kind) × (table (operators_of line) kind ≡ Some operator)
-  pub unary : (operator : Prefix) → (kind : Kind) × (table signs kind ≡ Some operator)
+  pub binary : (operator : BinaryOperator) → (line : Line) × (kind : TokenKind) × (table (operators_of line) (word_of kind) ≡ Some operator)
+  pub unary : (operator : Prefix) → (kind : TokenKind) × (table signs (word_of kind) ≡ Some operator)
   pub base : (tree : BaseType) → (token : Terminal) × SpellsAlone base token tree
   pub truth : (tree : Bool) → (token : Terminal) × SpellsAlone truth token tree
   pub direction : (tree : Direction) → (token : Terminal) × SpellsAlone direction token tree

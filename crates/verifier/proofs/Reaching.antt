@@ -7,7 +7,7 @@ use Rattle.std.proofs.lemmas.Bool.Decides.{nat_tests}
 use Rattle.std.proofs.lemmas.List.{length-replicate, get_or-set_same, get_or-set_other, get_or_append_left}
 use Rattle.std.proofs.lemmas.List.Elements.{Contains-append_left, Contains-push, Contains-push_cases}
 use Rattle.std.proofs.Math.ListN.{length-set}
-use Rattle.std.proofs.lemmas.Bool.{cases_lt, eqb-true, cases_eq}
+use Rattle.std.proofs.lemmas.Bool.{eqb-true, cases_eq}
 use Rattle.modules.specs.Contents.{ProcedureContents, ModuleContents}
 use Rattle.modules.specs.Code.{width_of, code_length, instruction_at, offset_at}
 use Rattle.modules.specs.declared.instruction.Instruction.TheVariants.{Push, Jump, JumpIfFalse}
@@ -23,12 +23,12 @@ use Rattle.verifier.specs.Work.{listed_at}
 use Rattle.verifier.specs.declared.work.ListedOffset.{ListedOffset}
 use Rattle.verifier.specs.Flow.{Edge, next, jumps, caught, Flow, starts, grows, misses, meets, falls, IsRefusedForOperands, FlowsWell, between, effect, Effect, Leaves, Misses}
 use Rattle.verifier.specs.SignatureParts.{nowhere, pushed}
-use Rattle.verifier.specs.Operands.{list_of, IsLonger}
+use Rattle.verifier.specs.Operands.{list_of, IsLonger, StartsWithEmpty}
 use Rattle.verifier.specs.Boundaries.{IsBoundary, KeepsBoundaries}
 use Rattle.verifier.specs.Coverage.{IsCoverage, Waits}
 use Rattle.verifier.specs.Depth as Depth
 use Rattle.verifier.specs.Depth.{IsMet, found}
-use Rattle.verifier.specs.Search.{list_for, shape_at, shape_for, table, jump_of, AreMet, IsListed, IsWaiting, StandsAt, HasFollowedEdges, IsSearching, IsAtEdge, Flowed, KeepsSearching, IsApplied, HasEffect, HasInstruction, StartsWithEmpty, IsSearchingNext, count, left, unset}
+use Rattle.verifier.specs.Search.{list_for, shape_at, shape_for, table, jump_of, IsLengthened, IsListed, IsLongest, IsWaiting, StandsAt, HasFollowedEdges, IsSearching, IsAtEdge, Flowed, KeepsSearching, IsApplied, HasEffect, HasInstruction, IsSearchingNext, count, left, unset}
 use Rattle.verifier.specs.declared.fault.CodeRefusalKind.TheVariants.{FallsOffEnd}
 use Rattle.verifier.specs.declared.coverage.Coverage.{Coverage}
 use Rattle.verifier.specs.declared.search.ReachedOffsets.{ReachedOffsets}
@@ -115,8 +115,18 @@ pub meets_at : (m : ModuleContents) (p : ProcedureContents) (s : ReachedOffsets)
 meets_at m p s busy at to after others kind g e inside there ne is =
     subst (IsRefusedForOperands m p to) (sym is) (meets (table p s) at e.kinds to after others g.flow e.has e.edge inside there ne)
 
+-- the longest list stays
+longest_same : (m : ModuleContents) (p : ProcedureContents) (s new : ReachedOffsets) → new.operands ≡ s.operands → new.longest ≡ s.longest → new.deepest ≡ s.deepest → IsLongest m p s → IsLongest m p new
+longest_same m p s new lists longest deepest l =
+    let same : list_of new.operands new.longest ≡ list_of s.operands s.longest = ap (λ ls. list_of ls new.longest) lists ∙ ap (list_of s.operands) longest in
+    record {
+      there = omega (arith, l.there, ap length lists);
+      met = subst (IsMet m p) (sym same) l.met;
+      depth = ap length same ∙ l.depth ∙ sym deepest;
+    }
+
 -- the search with one more list
-module _ (m : ModuleContents) (p : ProcedureContents) (s new : ReachedOffsets) (at to number list : ℕ) (g : IsSearching m p s (at ∷ [])) (e : IsAtEdge m p s at to (list_of s.operands list)) (known : list < length s.operands) (place : StandsAt p number to) (inside : number < length s.shapes) (unset_there : get_or s.shapes number None ≡ None) (lists : new.operands ≡ s.operands) (shapes : new.shapes ≡ set s.shapes number (Some list)) (work : new.work ≡ s.work ++ listed_at to number list ∷ []) where
+module _ (m : ModuleContents) (p : ProcedureContents) (s new : ReachedOffsets) (at to number list : ℕ) (g : IsSearching m p s (at ∷ [])) (e : IsAtEdge m p s at to (list_of s.operands list)) (known : list < length s.operands) (place : StandsAt p number to) (inside : number < length s.shapes) (unset_there : get_or s.shapes number None ≡ None) (deep : length (list_of s.operands list) ≤ s.deepest) (lists : new.operands ≡ s.operands) (longest : new.longest ≡ s.longest) (deepest : new.deepest ≡ s.deepest) (shapes : new.shapes ≡ set s.shapes number (Some list)) (work : new.work ≡ s.work ++ listed_at to number list ∷ []) where
   within : number < length p.code
   within = omega (arith, inside, g.sized)
 
@@ -205,7 +215,11 @@ module _ (m : ModuleContents) (p : ProcedureContents) (s new : ReachedOffsets) (
         | inr ne ↦ g.begins offset kinds (sym (others offset ne) ∙ h)
       ];
       first = keeps 0 [] g.first;
-      met = subst (AreMet m p) (sym lists) g.met;
+      deep = λ offset kinds h. elim (cases_eq offset to) [
+        | inl same ↦ let is : Some (list_of s.operands list) ≡ Some kinds = sym arrives ∙ ap (table p new) (sym same) ∙ h in let kinds_are : list_of s.operands list ≡ kinds = cc in omega (arith, deep, ap length kinds_are)
+        | inr ne ↦ omega (arith, g.deep offset kinds (sym (others offset ne) ∙ h))
+      ];
+      longest = longest_same m p s new lists longest deepest g.longest;
       flow = subst (Flow m p) (sym (fun_ext is_changed)) (grows (table p s) at e.kinds to (list_of s.operands list) g.flow e.has e.edge was_none);
       pending = λ offset kinds h. elim (cases_eq offset to) [
         | inl same ↦ inl (record { listed = listed_at to number list; there = subst (λ w. Contains w (listed_at to number list)) (sym work) (Contains-push s.work (listed_at to number list)); is = sym same })
@@ -222,6 +236,7 @@ module _ (m : ModuleContents) (p : ProcedureContents) (s new : ReachedOffsets) (
     keeps = keeps;
     arrives = arrives;
     same = lists;
+    deepest = deepest;
     left = omega (arith, ap unset shapes, unset_set s.shapes number list inside unset_there, ap length work, length-append s.work (listed_at to number list ∷ []));
   }
 
@@ -233,6 +248,7 @@ flowed_there m p s new at to list other g there same is =
       keeps = λ offset kinds h. h;
       arrives = ap (list_for s.operands) there ∙ ap Some (sym same);
       same = refl;
+      deepest = refl;
       left = omega arith;
     })
 
@@ -286,7 +302,8 @@ looked_at m p s at g kept = record {
   begins = g.begins;
   first = g.first;
   flow = g.flow;
-  met = g.met;
+  deep = g.deep;
+  longest = g.longest;
   pending = λ offset kinds h. elim (g.pending offset kinds h) [
     | inl w ↦ inl w
     | inr b ↦ elim b [ inl busy ↦ inr (inr (here offset kinds h (one at offset busy))) | inr k ↦ inr (inr k) ]
@@ -315,7 +332,7 @@ pub shape_known : (shapes : List (Option ℕ)) (count : ℕ) → ((number list :
 shape_known shapes count known None list e = absurd (let no : None ≡ Some list = e in cc)
 shape_known shapes count known (Some number) list e = known number list e
 
-module _ (m : ModuleContents) (p : ProcedureContents) (s new : ReachedOffsets) (busy : List ℕ) (g : IsSearching m p s busy) (longer : IsLonger s.operands new.operands) (shapes : new.shapes ≡ s.shapes) (work : new.work ≡ s.work) (met : (k : ℕ) → length s.operands ≤ k → k < length new.operands → IsMet m p (list_of new.operands k)) where
+module _ (m : ModuleContents) (p : ProcedureContents) (s new : ReachedOffsets) (busy : List ℕ) (g : IsSearching m p s busy) (longer : IsLonger s.operands new.operands) (shapes : new.shapes ≡ s.shapes) (work : new.work ≡ s.work) (deeper : s.deepest ≤ new.deepest) (longest : IsLongest m p new) where
   pub same_table : (offset : ℕ) → table p new offset ≡ table p s offset
   same_table offset = ap (λ (v : List (Option ℕ)). list_for new.operands (shape_for v (get_or (index_of p.code) offset None))) shapes ∙ longer_list s.operands new.operands (shape_at p s offset) (shape_known s.shapes (length s.operands) g.numbers (get_or (index_of p.code) offset None)) longer
 
@@ -327,7 +344,8 @@ module _ (m : ModuleContents) (p : ProcedureContents) (s new : ReachedOffsets) (
     begins = λ offset kinds h. g.begins offset kinds (sym (same_table offset) ∙ h);
     first = same_table 0 ∙ g.first;
     flow = subst (Flow m p) (sym (fun_ext same_table)) g.flow;
-    met = all_met;
+    deep = λ offset kinds h. omega (arith, deeper, g.deep offset kinds (sym (same_table offset) ∙ h));
+    longest = longest;
     pending = λ offset kinds h. elim (g.pending offset kinds (sym (same_table offset) ∙ h)) [
       | inl w ↦ inl (record { listed = w.listed; there = subst (λ (v : List ListedOffset). Contains v w.listed) (sym work) w.there; is = w.is })
       | inr b ↦ elim b [ inl busy ↦ inr (inl busy) | inr k ↦ inr (inr (kept offset kinds k)) ]
@@ -339,13 +357,6 @@ module _ (m : ModuleContents) (p : ProcedureContents) (s new : ReachedOffsets) (
     };
   }
     where
-      all_met : AreMet m p new.operands
-      all_met k inside =
-          elim (cases_lt k (length s.operands)) [
-            | inl old ↦ subst (IsMet m p) (sym (ap (λ ls. list_of ls k) longer.1 ∙ get_or_append_left s.operands longer.0 [] k old)) (g.met k old)
-            | inr added ↦ met k added inside
-          ]
-
       kept : (offset : ℕ) (kinds : List BaseType) → HasFollowedEdges m p s offset kinds → HasFollowedEdges m p new offset kinds
       kept offset kinds k = record {
         instruction = k.instruction;
@@ -382,18 +393,32 @@ leaves_rest o e rest is none = is ∙ ap (λ p. Leaves (pushed p rest)) none
 pub leaves_more : (o : Option BaseType) (e : Effect) (rest : List BaseType) (kind : BaseType) → e ≡ Leaves (pushed o rest) → o ≡ Some kind → e ≡ Leaves (kind ∷ rest)
 leaves_more o e rest kind is some = is ∙ ap (λ p. Leaves (pushed p rest)) some
 
--- what an instruction pushes is met, and where it pushes nothing there is no new list
-pub pushed_by : (m : ModuleContents) (p : ProcedureContents) (s : ReachedOffsets) (busy : List ℕ) (more : List (List BaseType)) (at : ℕ) (kinds after : List BaseType) (i : Instruction) → IsSearching m p s busy → table p s at ≡ Some kinds → instruction_at p.code at ≡ Some i → effect m p i kinds ≡ Leaves after → ((k : ℕ) → length s.operands ≤ k → k < length more → list_of more k ≡ after) → (k : ℕ) → length s.operands ≤ k → k < length more → IsMet m p (list_of more k)
-pushed_by m p s busy more at kinds after i g has is e new k low high =
-    subst (IsMet m p) (sym (new k low high)) (Depth.left (table p s) at kinds i after g.flow has is e)
+-- what an instruction pushes is met: it is the longest list if none was as long
+pub pushed_by : (m : ModuleContents) (p : ProcedureContents) (s new : ReachedOffsets) (busy : List ℕ) (at : ℕ) (kinds after : List BaseType) (i : Instruction) → IsSearching m p s busy → table p s at ≡ Some kinds → instruction_at p.code at ≡ Some i → effect m p i kinds ≡ Leaves after → IsLonger s.operands new.operands → IsLengthened s new after → IsLongest m p new
+pushed_by m p s new busy at kinds after i g has is e longer h =
+    elim h.either [
+      | inl more ↦ record {
+        there = more.there;
+        met = subst (IsMet m p) (sym more.list) (Depth.left (table p s) at kinds i after g.flow has is e);
+        depth = ap length more.list ∙ sym more.depth;
+      }
+      | inr same ↦
+          let l = g.longest in
+          let kept : list_of new.operands new.longest ≡ list_of s.operands s.longest = ap (λ (k : ℕ). list_of new.operands k) same.longest ∙ ap (λ ls. list_of ls s.longest) longer.1 ∙ get_or_append_left s.operands longer.0 [] s.longest l.there in
+          record {
+            there = omega (arith, l.there, same.longest, ap length longer.1, length-append s.operands longer.0);
+            met = subst (IsMet m p) (sym kept) l.met;
+            depth = ap length kept ∙ l.depth ∙ sym same.depth;
+          }
+    ]
 
 -- the list that an instruction leaves, where the lists grew
-pub applied : (m : ModuleContents) (p : ProcedureContents) (s new : ReachedOffsets) (at : ℕ) → IsSearching m p s (at ∷ []) → IsLonger s.operands new.operands → length new.operands ≤ length s.operands + 1 → new.shapes ≡ s.shapes → new.work ≡ s.work → ((k : ℕ) → length s.operands ≤ k → k < length new.operands → IsMet m p (list_of new.operands k)) → IsApplied m p s new at
-applied m p s new at g longer few shapes work met = record {
-  searching = going_longer m p s new (at ∷ []) g longer shapes work met;
-  keeps = λ offset kinds h. same_table m p s new (at ∷ []) g longer shapes work met offset ∙ h;
+pub applied : (m : ModuleContents) (p : ProcedureContents) (s new : ReachedOffsets) (at : ℕ) → IsSearching m p s (at ∷ []) → IsLonger s.operands new.operands → length new.operands ≤ length s.operands + 1 → new.shapes ≡ s.shapes → new.work ≡ s.work → s.deepest ≤ new.deepest → IsLongest m p new → IsApplied m p s new at
+applied m p s new at g longer few shapes work deeper longest = record {
+  searching = going_longer m p s new (at ∷ []) g longer shapes work deeper longest;
+  keeps = λ offset kinds h. same_table m p s new (at ∷ []) g longer shapes work deeper longest offset ∙ h;
   few = few;
-  left = omega (arith, same_left m p s new (at ∷ []) g longer shapes work met);
+  left = omega (arith, same_left m p s new (at ∷ []) g longer shapes work deeper longest);
 }
 
 pub effect_of : (m : ModuleContents) (p : ProcedureContents) (s new : ReachedOffsets) (at : ℕ) (kinds after : List BaseType) (i : Instruction) → IsApplied m p s new at → table p s at ≡ Some kinds → instruction_at p.code at ≡ Some i → effect m p i kinds ≡ Leaves after → HasEffect m p new at i after
@@ -420,6 +445,7 @@ steps_more m p old between new at to list f h = record {
   searching = h.searching;
   keeps = λ offset kinds e. h.keeps offset kinds (f.keeps offset kinds e);
   same = h.same ∙ f.same;
+  deepest = h.deepest ∙ f.deepest;
   left = omega (arith, f.left, h.left);
 }
 
@@ -479,7 +505,7 @@ no_items [] e = refl
 no_items (x ∷ xs) e = absurd (omega arith)
 
 -- a offset is taken from those that wait
-module _ (m : ModuleContents) (p : ProcedureContents) (s new : ReachedOffsets) (listed : ListedOffset) (g : IsSearching m p s []) (operands : new.operands ≡ s.operands) (shapes : new.shapes ≡ s.shapes) (work : s.work ≡ new.work ++ listed ∷ []) where
+module _ (m : ModuleContents) (p : ProcedureContents) (s new : ReachedOffsets) (listed : ListedOffset) (g : IsSearching m p s []) (operands : new.operands ≡ s.operands) (longest : new.longest ≡ s.longest) (deepest : new.deepest ≡ s.deepest) (shapes : new.shapes ≡ s.shapes) (work : s.work ≡ new.work ++ listed ∷ []) where
   taken_table : (offset : ℕ) → table p new offset ≡ table p s offset
   taken_table offset = ap (λ (v : List (Option ℕ)). list_for new.operands (shape_for v (get_or (index_of p.code) offset None))) shapes ∙ ap (λ ls. list_for ls (shape_at p s offset)) operands
 
@@ -509,7 +535,8 @@ module _ (m : ModuleContents) (p : ProcedureContents) (s new : ReachedOffsets) (
     begins = λ offset kinds h. g.begins offset kinds (sym (taken_table offset) ∙ h);
     first = taken_table 0 ∙ g.first;
     flow = subst (Flow m p) (sym (fun_ext taken_table)) g.flow;
-    met = subst (AreMet m p) (sym operands) g.met;
+    deep = λ offset kinds h. omega (arith, g.deep offset kinds (sym (taken_table offset) ∙ h));
+    longest = longest_same m p s new operands longest deepest g.longest;
     pending = λ offset kinds h. elim (g.pending offset kinds (sym (taken_table offset) ∙ h)) [
       | inl w ↦ elim (Contains-push_cases new.work listed w.listed (subst (λ l. Contains l w.listed) work w.there)) [
         | inl rest ↦ inl (record { listed = w.listed; there = rest; is = w.is })
@@ -535,12 +562,12 @@ module _ (m : ModuleContents) (p : ProcedureContents) (s new : ReachedOffsets) (
       record { instruction = i.0; there = i.1; kinds = list_of s.operands listed.list; has = taken_table listed.at ∙ waited.list }
 
 -- what goes on after one that is taken, if there is one, or where nothing waits
-pub taken_next : (m : ModuleContents) (p : ProcedureContents) (s : ReachedOffsets) (work : List ListedOffset) (o : Option ListedOffset) → IsSearching m p s [] → IfSome o (λ listed. s.work ≡ work ++ listed ∷ []) → IfNone o (s.work ≡ []) → IfNone o (work ≡ []) → IsSearchingNext m p (record { operands = s.operands; shapes = s.shapes; work = work }) o
-taken_next m p s work None g some none empty = subst (λ (w : List ListedOffset). IsSearching m p (record { operands = s.operands; shapes = s.shapes; work = w }) []) (none ∙ sym empty) g
+pub taken_next : (m : ModuleContents) (p : ProcedureContents) (s : ReachedOffsets) (work : List ListedOffset) (o : Option ListedOffset) → IsSearching m p s [] → IfSome o (λ listed. s.work ≡ work ++ listed ∷ []) → IfNone o (s.work ≡ []) → IfNone o (work ≡ []) → IsSearchingNext m p (record s { work = work }) o
+taken_next m p s work None g some none empty = subst (λ (w : List ListedOffset). IsSearching m p (record s { work = w }) []) (none ∙ sym empty) g
 taken_next m p s work (Some listed) g some none empty =
-    let new : ReachedOffsets = record { operands = s.operands; shapes = s.shapes; work = work } in (
-      taken m p s new listed g refl refl some,
-      (taken_instruction m p s new listed g refl refl some, taken_listed m p s new listed g refl refl some),
+    let new : ReachedOffsets = record s { work = work } in (
+      taken m p s new listed g refl refl refl refl some,
+      (taken_instruction m p s new listed g refl refl refl refl some, taken_listed m p s new listed g refl refl refl refl some),
     )
 
 pub taken_count : (old work : List ListedOffset) (o : Option ListedOffset) → IfSome o (λ listed. old ≡ work ++ listed ∷ []) → IfNone o (work ≡ []) → length work + count o ≤ length old
@@ -568,20 +595,20 @@ all_unset (suc n) = ap suc (all_unset n)
 pub empty_falls : (m : ModuleContents) (p : ProcedureContents) → code_length p.code ≡ 0 → IsRefusedForOperands m p 0 FallsOffEnd
 empty_falls m p e = subst (λ t. IsRefusedForOperands m p t FallsOffEnd) e (falls (updated nowhere 0 (Some [])) [] starts (subst (λ t. updated nowhere 0 (Some []) t ≡ Some []) (sym e) (changed_at nowhere 0 [])))
 
-module _ (m : ModuleContents) (p : ProcedureContents) (s : ReachedOffsets) (n : ℕ) (size : length p.code ≡ suc n) (boundaries : KeepsBoundaries p) (operands : s.operands ≡ [] ∷ []) (shapes : s.shapes ≡ set (replicate (suc n) None) 0 (Some 0)) (work : s.work ≡ listed_at 0 0 0 ∷ []) where
+module _ (m : ModuleContents) (p : ProcedureContents) (s : ReachedOffsets) (n : ℕ) (size : length p.code ≡ suc n) (boundaries : KeepsBoundaries p) (root : StartsWithEmpty s.operands) (longest : s.longest ≡ 0) (deepest : s.deepest ≡ 0) (shapes : s.shapes ≡ set (replicate (suc n) None) 0 (Some 0)) (work : s.work ≡ listed_at 0 0 0 ∷ []) where
   index_first : get_or (index_of p.code) 0 None ≡ Some 0
   index_first = number_found p.code 0 0 (omega (arith, size)) (first_offset p.code)
 
-  start_table : (offset : ℕ) → table p s offset ≡ list_for ([] ∷ []) (shape_for (Some 0 ∷ replicate n None) (get_or (index_of p.code) offset None))
-  start_table offset = ap (λ v. list_for s.operands (shape_for v (get_or (index_of p.code) offset None))) shapes ∙ ap (λ ls. list_for ls (shape_for (Some 0 ∷ replicate n None) (get_or (index_of p.code) offset None))) operands
+  start_table : (offset : ℕ) → table p s offset ≡ list_for s.operands (shape_for (Some 0 ∷ replicate n None) (get_or (index_of p.code) offset None))
+  start_table offset = ap (λ v. list_for s.operands (shape_for v (get_or (index_of p.code) offset None))) shapes
 
-  none_later : (k : ℕ) (o : Option ℕ) → get_or (index_of p.code) (suc k) None ≡ o → list_for ([] ∷ []) (shape_for (Some 0 ∷ replicate n None) o) ≡ None
+  none_later : (k : ℕ) (o : Option ℕ) → get_or (index_of p.code) (suc k) None ≡ o → list_for s.operands (shape_for (Some 0 ∷ replicate n None) o) ≡ None
   none_later k None e = refl
   none_later k (Some zero) e = absurd (omega (arith, (begins_at p.code (suc k) zero e).1, first_offset p.code))
-  none_later k (Some (suc j)) e = ap (list_for ([] ∷ [])) (all_none n j)
+  none_later k (Some (suc j)) e = ap (list_for s.operands) (all_none n j)
 
-  start_shape : (offset : ℕ) → list_for ([] ∷ []) (shape_for (Some 0 ∷ replicate n None) (get_or (index_of p.code) offset None)) ≡ updated nowhere 0 (Some []) offset
-  start_shape zero = ap (λ o. list_for ([] ∷ []) (shape_for (Some 0 ∷ replicate n None) o)) index_first
+  start_shape : (offset : ℕ) → list_for s.operands (shape_for (Some 0 ∷ replicate n None) (get_or (index_of p.code) offset None)) ≡ updated nowhere 0 (Some []) offset
+  start_shape zero = ap (λ o. list_for s.operands (shape_for (Some 0 ∷ replicate n None) o)) index_first ∙ ap Some root.1
   start_shape (suc k) = none_later k (get_or (index_of p.code) (suc k) None) refl ∙ ap (λ (b : Bool). if b then Some [] else None) (sym (not_zero k))
 
   only_first : (offset : ℕ) (kinds : List BaseType) → table p s offset ≡ Some kinds → offset ≡ 0
@@ -593,13 +620,18 @@ module _ (m : ModuleContents) (p : ProcedureContents) (s : ReachedOffsets) (n : 
 
   pub started : IsSearching m p s []
   started = record {
-    root = (omega (arith, ap length operands), ap (λ ls. list_of ls 0) operands);
+    root = root;
     sized = ap length shapes ∙ (ap suc (length-replicate n None)) ∙ sym size;
     numbers = λ offset list h. numbers offset list h;
     begins = λ offset kinds h. subst (λ q. (i : Instruction) × (instruction_at p.code q ≡ Some i)) (sym (only_first offset kinds h)) (elim boundaries.first [ inl e ↦ absurd (omega (arith, e, size, code_length_least p.code)) | inr i ↦ i ]);
     first = start_table 0 ∙ start_shape 0;
     flow = subst (Flow m p) (sym (fun_ext (λ offset. start_table offset ∙ start_shape offset))) starts;
-    met = subst (AreMet m p) (sym operands) first_met;
+    deep = λ offset kinds h. let is : Some [] ≡ Some kinds = sym (start_table 0 ∙ start_shape 0) ∙ ap (table p s) (sym (only_first offset kinds h)) ∙ h in let none : [] ≡ kinds = cc in omega (arith, ap length none);
+    longest = record {
+      there = omega (arith, longest, root.0);
+      met = subst (IsMet m p) (sym first_list) (found (updated nowhere 0 (Some [])) 0 [] starts (changed_at nowhere 0 []));
+      depth = ap length first_list ∙ sym deepest;
+    };
     pending = λ offset kinds h. inl (record { listed = listed_at 0 0 0; there = subst (λ l. Contains l (listed_at 0 0 0)) (sym work) (Contains-push [] (listed_at 0 0 0)); is = sym (only_first offset kinds h) });
     waits = λ l w. elim (Contains-push_cases [] (listed_at 0 0 0) l (subst (λ v. Contains v l) work w)) [ inl none ↦ absurd (omega (arith, none.1)) | inr same ↦ subst (IsListed p s) same first_listed ];
   }
@@ -607,14 +639,13 @@ module _ (m : ModuleContents) (p : ProcedureContents) (s : ReachedOffsets) (n : 
       first_listed : IsListed p s (listed_at 0 0 0)
       first_listed = record {
         number = first_offset p.code;
-        list = start_table 0 ∙ start_shape 0 ∙ ap (λ ls. Some (list_of ls 0)) (sym operands);
-        inside = omega (arith, ap length operands);
+        list = start_table 0 ∙ start_shape 0 ∙ ap Some (sym root.1);
+        inside = root.0;
       }
 
-      first_met : AreMet m p ([] ∷ [])
-      first_met zero inside = found (updated nowhere 0 (Some [])) 0 [] starts (changed_at nowhere 0 [])
-      first_met (suc k) inside = absurd (omega arith)
+      first_list : list_of s.operands s.longest ≡ []
+      first_list = ap (list_of s.operands) longest ∙ root.1
 
       numbers : (offset list : ℕ) → get_or s.shapes offset None ≡ Some list → list < length s.operands
-      numbers zero list h = let f : Some 0 ≡ Some list = sym (ap (λ v. get_or v 0 None) shapes) ∙ h in let g : 0 ≡ list = cc in omega (arith, ap length operands)
+      numbers zero list h = let f : Some 0 ≡ Some list = sym (ap (λ v. get_or v 0 None) shapes) ∙ h in let g : 0 ≡ list = cc in omega (arith, root.0)
       numbers (suc k) list h = absurd (let f : None ≡ Some list = sym (ap (λ v. get_or v (suc k) None) shapes ∙ all_none n k) ∙ h in cc)

@@ -5,12 +5,14 @@ use Rattle.verifier.specs.Refusals.{IsNotRefused, IsOperandRefusal, IsCodeRefusa
 use Rattle.verifier.specs.Fixed.{fixed_refusals}
 use Rattle.verifier.specs.Flow.{FlowsWell, IsRefusedForOperands}
 use Rattle.verifier.specs.declared.fault.CodeRefusal.{CodeRefusal}
-use Rattle.std.proofs.lemmas.List.{get_or_append_left}
+use Rattle.std.proofs.lemmas.List.{append-nil, append_assoc, get_or_append_left}
 use Rattle.std.proofs.lemmas.Option.{slice_get-get_or}
 use Rattle.std.proofs.Math.Seq.{get_or-append_seam}
 use Rattle.verifier.specs.Depth.{IsGreatestDepth}
-use Rattle.verifier.specs.Positions.{VerifiedCode}
-use Rattle.verifier.specs.Verified.{IsOperandRefusalOf, IsVerified}
+use Rattle.verifier.specs.Positions.{positioned}
+use Rattle.verifier.specs.declared.positions.Code.{Code}
+use Rattle.modules.specs.declared.instruction.Instruction.{Instruction}
+use Rattle.verifier.specs.Verified.{IsOperandRefusalOf, IsVerified, IsVerifiedCode}
 use Rattle.verifier.proofs.Bounds.{IsBounded}
 use Rattle.verifier.proofs.NeverStuck.{never_stuck}
 use Rattle.common.proofs.Cases.{last_cases}
@@ -72,14 +74,27 @@ module _ (m : ModuleContents) (procedures : List ProcedureContents) (are : proce
       ]
 
   -- one more code
-  pub depth_more : (q : ModuleContents) → q ≡ m → (codes new : List VerifiedCode) (code : VerifiedCode) → length codes ≡ index → new ≡ codes ++ code ∷ [] → IsGreatestDepth q body code.greatest_depth → ((k : ℕ) (p : ProcedureContents) (d : VerifiedCode) → k < index → slice_get procedures k ≡ Some p → IsGreatestDepth m p (get_or codes k d).greatest_depth) → (k : ℕ) (p : ProcedureContents) (d : VerifiedCode) → k < index + 1 → slice_get procedures k ≡ Some p → IsGreatestDepth m p (get_or new k d).greatest_depth
-  depth_more q same_module codes new code long pushed depth before k p d below there =
-      subst (λ (cs : List VerifiedCode). IsGreatestDepth m p (get_or cs k d).greatest_depth) (sym pushed) (elim (last_cases k index below) [
-        | inl less ↦ subst (λ (c : VerifiedCode). IsGreatestDepth m p c.greatest_depth) (sym (get_or_append_left codes (code ∷ []) d k (omega (arith, long, less)))) (before k p d less there)
+  pub code_more : (q : ModuleContents) → q ≡ m → (codes new : List Code) (placed more : List Instruction) (code : Code) → length codes ≡ index → new ≡ codes ++ code ∷ [] → more ≡ placed ++ positioned body.code → code.start ≡ length placed → IsGreatestDepth q body code.greatest_depth → ((k : ℕ) (p : ProcedureContents) (d : Code) → k < index → slice_get procedures k ≡ Some p → IsVerifiedCode m p placed (get_or codes k d)) → (k : ℕ) (p : ProcedureContents) (d : Code) → k < index + 1 → slice_get procedures k ≡ Some p → IsVerifiedCode m p more (get_or new k d)
+  code_more q same_module codes new placed more code long pushed added start depth earlier k p d below there =
+      subst (λ (cs : List Code). IsVerifiedCode m p more (get_or cs k d)) (sym pushed) (elim (last_cases k index below) [
+        | inl less ↦
+            let c = earlier k p d less there in
+            subst (IsVerifiedCode m p more) (sym (get_or_append_left codes (code ∷ []) d k (omega (arith, long, less)))) (record {
+              before = c.before;
+              after = c.after ++ positioned body.code;
+              there = added ∙ ap (λ l. l ++ positioned body.code) c.there ∙ append_assoc (c.before ++ positioned p.code) c.after (positioned body.code);
+              start = c.start;
+              depth = c.depth;
+            })
         | inr last ↦
             let found : Some body ≡ Some p = sym item_there ∙ ap (λ all. slice_get all index) (sym are) ∙ ap (slice_get procedures) (sym last) ∙ there in
             let body_is : body ≡ p = cc in
             let at : get_or (codes ++ code ∷ []) k d ≡ code = ap (λ (j : ℕ). get_or (codes ++ code ∷ []) j d) (last ∙ sym long) ∙ get_or-append_seam codes code [] d in
-            subst (λ (c : VerifiedCode). IsGreatestDepth m p c.greatest_depth) (sym at)
-            (subst (λ (x : ProcedureContents). IsGreatestDepth m x code.greatest_depth) body_is (subst (λ (x : ModuleContents). IsGreatestDepth x body code.greatest_depth) same_module depth))
+            subst (IsVerifiedCode m p more) (sym at) (subst (λ (x : ProcedureContents). IsVerifiedCode m x more code) body_is (record {
+              before = placed;
+              after = [];
+              there = added ∙ sym (append-nil (placed ++ positioned body.code));
+              start = start;
+              depth = subst (λ (x : ModuleContents). IsGreatestDepth x body code.greatest_depth) same_module depth;
+            }))
       ])

@@ -1,6 +1,6 @@
 -- No run of a module that is not refused is stuck: each state of a run has the kinds of operands that the flow has for its offset,
 -- in the running frame and in each frame that waits at a call.
-use Rattle.std.proofs.Common.{◌≡◌, ℕ, suc, ◌+◌, ◌<◌, ◌≤◌, ◌==◌, Bool, true, false, if◌then◌else◌, List, [], ◌∷◌, map, slice_get, Option, Some, None, refl, sym, ap, ◌∙◌, subst, arith}
+use Rattle.std.proofs.Common.{◌≡◌, ℕ, suc, ◌+◌, ◌<◌, ◌≤◌, ◌==◌, Bool, true, false, if◌then◌else◌, List, [], ◌∷◌, length, map, slice_get, Option, Some, None, refl, sym, ap, ◌∙◌, subst, arith}
 use Rattle.std.specs.Prelude.{◌&&◌, not, nat_lt}
 use Rattle.std.specs.List.{Contains}
 use Rattle.std.proofs.lemmas.Bool.{and_parts}
@@ -10,7 +10,7 @@ use Rattle.modules.specs.Contents.{ProcedureContents, ModuleContents}
 use Rattle.modules.specs.Machine as machine
 use Rattle.modules.specs.Machine.{State, Frame, Caller, Machine, Running, Ended, Stuck, Finished, Threw, Deep, machine_code, header_of, handler_for, handled, unwound, raised, new_frame, slot_of}
 use Rattle.modules.specs.MachineParts.{code_of, handlers_of, position_after, leaves, leaves_value}
-use Rattle.modules.specs.Values.{kind_of}
+use Rattle.modules.specs.Values.{is_same_kind, kind_of}
 use Rattle.modules.specs.declared.instruction.Instruction.{Instruction}
 use Rattle.modules.specs.declared.instruction.Instruction.TheVariants.{Call}
 use Rattle.common.specs.declared.base_type.BaseType.{BaseType}
@@ -18,7 +18,8 @@ use Rattle.modules.specs.declared.value.Cell.{Cell}
 use Rattle.modules.specs.declared.declaration.Handler.{Handler}
 use Rattle.verifier.specs.Refusals.{IsNotRefused}
 use Rattle.modules.specs.Targets.{goes_on, target_of}
-use Rattle.verifier.specs.Flow.{next, jumps, caught, Leaves, effect, FlowsWell}
+use Rattle.verifier.specs.Flow.{next, jumps, caught, Leaves, Misses, all_popped, and_then, effect, FlowsWell}
+use Rattle.verifier.specs.declared.fault.CodeRefusalKind.TheVariants.{OperandKind}
 use Rattle.verifier.specs.SignatureParts.{pushed}
 use Rattle.verifier.proofs.Holds.{Holds}
 use Rattle.verifier.proofs.Laws.{IsInFlow, along_in_flow}
@@ -68,6 +69,17 @@ pub data Good (m : ModuleContents) : Machine → Type 0 where
 
 pub leaves_same : (a b : List BaseType) → Leaves a ≡ Leaves b → a ≡ b
 leaves_same a b e = cc
+
+-- what pops leaves no more
+pub popped_less : (wanted : List (Option BaseType)) (kinds rest : List BaseType) → all_popped wanted kinds ≡ Leaves rest → length rest ≤ length kinds
+popped_less [] kinds rest e = omega (arith, ap length (leaves_same kinds rest e))
+popped_less (w ∷ wanted) [] rest e = absurd (cc)
+popped_less (None ∷ wanted) (kind ∷ kinds) rest e = omega (arith, popped_less wanted kinds rest e)
+popped_less (Some w ∷ wanted) (kind ∷ kinds) rest e = split (λ more. popped_less wanted kinds rest more) (is_same_kind w kind) e
+  where
+    split : (all_popped wanted kinds ≡ Leaves rest → length rest ≤ length kinds) → (b : Bool) → and_then (if b then Leaves kinds else Misses OperandKind) (all_popped wanted) ≡ Leaves rest → length rest ≤ suc (length kinds)
+    split less true e = omega (arith, less e)
+    split less false e = absurd (cc)
 
 module _ (m : ModuleContents) (free : IsNotRefused m) where
   -- on to the next instruction

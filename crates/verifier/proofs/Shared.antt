@@ -1,11 +1,11 @@
 -- One more list that is kept once.
-use Rattle.std.proofs.Common.{◌≡◌, ◌≢◌, inl, inr, ℕ, suc, zero, ◌+◌, ◌<◌, ◌≤◌, List, [], ◌∷◌, ◌++◌, length, drop, get_or, map, max, set, ◌⊎◌, Option, Some, None, refl, sym, ap, ◌∙◌, subst, arith, length-append}
+use Rattle.std.proofs.Common.{◌≡◌, ◌≢◌, inl, inr, ℕ, suc, zero, ◌+◌, ◌<◌, ◌≤◌, List, [], ◌∷◌, ◌++◌, length, drop, get_or, map, set, Option, Some, None, refl, sym, ap, ◌∙◌, subst, arith, length-append}
 use Rattle.std.proofs.lemmas.List.{drop_all, get_or_append_left, get_or-set_same, get_or-set_other}
 use Rattle.std.proofs.Math.Seq.{get_or-append_seam}
 use Rattle.std.proofs.Math.ListN.{length-set}
-use Rattle.std.proofs.lemmas.Bool.{cases_eq, cases_lt}
+use Rattle.std.proofs.lemmas.Bool.{cases_eq}
 use Rattle.std.specs.Prelude.{IfNone, IfSome}
-use Rattle.verifier.specs.Operands.{above_of, booleans_of, ints_of, list_of, noted, on_top, packed, spelled, HasAbove, IsLongest, IsNode, IsShared}
+use Rattle.verifier.specs.Operands.{above_of, booleans_of, ints_of, list_of, noted, on_top, packed, spelled, HasAbove, IsNode, IsShared}
 use Rattle.verifier.specs.declared.operands.Node.{Node}
 use Rattle.verifier.specs.declared.operands.Top.{Top}
 use Rattle.verifier.specs.declared.operands.Top.TheVariants as top
@@ -146,8 +146,8 @@ tail_of top.Int below tail q e = cc
 tail_of top.Boolean below tail q e = cc
 
 -- the tails of lists that are kept once
-pub tails_of : (lists : List (List BaseType)) (nodes : List Node) (ints booleans : List (Option ℕ)) (deepest : ℕ) → IsShared lists nodes ints booleans deepest → HasTails lists
-tails_of lists nodes ints booleans deepest s r q tail l e =
+pub tails_of : (lists : List (List BaseType)) (nodes : List Node) (ints booleans : List (Option ℕ)) → IsShared lists nodes ints booleans → HasTails lists
+tails_of lists nodes ints booleans s r q tail l e =
     let h = s.node r no_node (omega (arith, s.long)) in
     ((get_or nodes r no_node).below, omega (arith, h.below), tail_of (get_or nodes r no_node).top (list_of lists (get_or nodes r no_node).below) tail q (sym h.list ∙ e))
 
@@ -230,26 +230,9 @@ above_longer Boolean lists Boolean below there fresh above noted same other tail
 above_longer Int lists Boolean below there fresh above noted same other tails distinct h = subst (HasAbove Int (lists ++ (Boolean ∷ list_of lists below) ∷ [])) (sym (other (λ e. differ (sym e)))) (above_other lists Boolean below there fresh Int above (λ e. differ (sym e)) tails h)
 above_longer Boolean lists Int below there fresh above noted same other tails distinct h = subst (HasAbove Boolean (lists ++ (Int ∷ list_of lists below) ∷ [])) (sym (other differ)) (above_other lists Int below there fresh Boolean above differ tails h)
 
--- ---- the longest list
-
-max_cases : (a b : ℕ) → (max a b ≡ a) ⊎ (max a b ≡ b)
-max_cases a b = elim (cases_lt a b) [ inl h ↦ inr (omega (arith, h)) | inr h ↦ inl (omega (arith, h)) ]
-
-longest_more : (lists : List (List BaseType)) (n : List BaseType) (deepest depth : ℕ) → IsLongest lists deepest → depth ≡ length n → IsLongest (lists ++ n ∷ []) (max deepest depth)
-longest_more lists n deepest depth h is = record {
-  bounds = λ k l. elim (last_cases k (length lists) (omega (arith, l, longer_one lists n))) [
-    | inl lk ↦ omega (arith, h.bounds k lk, ap length (old lists n k lk))
-    | inr ek ↦ omega (arith, is, ap length (ap (list_of (lists ++ n ∷ [])) ek ∙ new lists n))
-  ];
-  there = elim (max_cases deepest depth) [
-    | inl own ↦ (h.there.0, (omega (arith, h.there.1.0, longer_one lists n), ap length (old lists n h.there.0 h.there.1.0) ∙ h.there.1.1 ∙ sym own))
-    | inr more ↦ (length lists, (omega (arith, longer_one lists n), ap length (new lists n) ∙ sym is ∙ sym more))
-  ];
-}
-
 -- ---- one more list
 
-module _ (lists : List (List BaseType)) (nodes : List Node) (deepest below above : ℕ) (kind : BaseType) (node more : Node) where
+module _ (lists : List (List BaseType)) (nodes : List Node) (below above : ℕ) (kind : BaseType) (node more : Node) where
   the_other : (kind : BaseType) → kind ≢ Int → kind ≡ Boolean
   the_other Int ne = absurd (ne refl)
   the_other Boolean ne = refl
@@ -280,7 +263,7 @@ module _ (lists : List (List BaseType)) (nodes : List Node) (deepest below above
       rw is (map_kept (λ (n : Node). above_of n.boolean) (nodes ++ more ∷ []) below node (noted Int above node) at refl
       ∙ map_last (λ (n : Node). above_of n.boolean) nodes more ∙ ap (λ (n : ℕ). booleans_of nodes ++ above_of n ∷ []) fresh)
 
-  pub shared_longer : IsShared lists nodes (ints_of nodes) (booleans_of nodes) deepest → below < length lists → ((k : ℕ) → k < length lists → list_of lists k ≢ kind ∷ list_of lists below) → node ≡ get_or nodes below node → above ≡ length nodes → ((kinds : List BaseType) → on_top more.top kinds ≡ kind ∷ kinds) → more.below ≡ below → more.depth ≡ node.depth + 1 → more.bits ≡ packed 64 (kind ∷ list_of lists below) → list_of lists more.skip ≡ drop 63 (list_of lists below) → more.skip < length lists → more.int ≡ 0 → more.boolean ≡ 0 → IsShared (lists ++ (kind ∷ list_of lists below) ∷ []) (set (nodes ++ more ∷ []) below (noted kind above node)) (ints_of (set (nodes ++ more ∷ []) below (noted kind above node))) (booleans_of (set (nodes ++ more ∷ []) below (noted kind above node))) (max deepest more.depth)
+  pub shared_longer : IsShared lists nodes (ints_of nodes) (booleans_of nodes) → below < length lists → ((k : ℕ) → k < length lists → list_of lists k ≢ kind ∷ list_of lists below) → node ≡ get_or nodes below node → above ≡ length nodes → ((kinds : List BaseType) → on_top more.top kinds ≡ kind ∷ kinds) → more.below ≡ below → more.depth ≡ node.depth + 1 → more.bits ≡ packed 64 (kind ∷ list_of lists below) → list_of lists more.skip ≡ drop 63 (list_of lists below) → more.skip < length lists → more.int ≡ 0 → more.boolean ≡ 0 → IsShared (lists ++ (kind ∷ list_of lists below) ∷ []) (set (nodes ++ more ∷ []) below (noted kind above node)) (ints_of (set (nodes ++ more ∷ []) below (noted kind above node))) (booleans_of (set (nodes ++ more ∷ []) below (noted kind above node)))
   shared_longer s there fresh node_is above_is top_is below_is depth_is bits_is skip_is skip_there int_is boolean_is =
       let n : List BaseType = kind ∷ list_of lists below in
       let inside : below < length nodes = omega (arith, s.long) in
@@ -290,7 +273,7 @@ module _ (lists : List (List BaseType)) (nodes : List Node) (deepest below above
       let at : node ≡ get_or (nodes ++ more ∷ []) below node = node_is ∙ sym (get_or_append_left nodes (more ∷ []) node below inside) in
       let some : 0 < above = omega (arith, s.some, s.long) in
       let number : above ≡ length lists = omega (arith, s.long) in
-      let tails = tails_of lists nodes (ints_of nodes) (booleans_of nodes) deepest s in
+      let tails = tails_of lists nodes (ints_of nodes) (booleans_of nodes) s in
       record {
         some = omega (arith, longer_one lists n);
         root = old lists n 0 s.some ∙ s.root;
@@ -301,7 +284,6 @@ module _ (lists : List (List BaseType)) (nodes : List Node) (deepest below above
         int_above = above_longer Int lists kind below there fresh (ints_of nodes) _ (λ e. ints_noted e int_is some ∙ ap (λ (j : ℕ). set (ints_of nodes ++ None ∷ []) below (Some j)) number) (λ ne. ints_kept (the_other kind ne) int_is at) tails s.distinct s.int_above;
         boolean_above = above_longer Boolean lists kind below there fresh (booleans_of nodes) _ (λ e. booleans_noted e boolean_is some ∙ ap (λ (j : ℕ). set (booleans_of nodes ++ None ∷ []) below (Some j)) number) (λ ne. booleans_kept (the_one kind ne) boolean_is at) tails s.distinct s.boolean_above;
         distinct = λ a b la lb. distinct_more lists kind below there fresh s.distinct a b (omega (arith, la, longer_one lists n)) (omega (arith, lb, longer_one lists n));
-        longest = longest_more lists n deepest more.depth s.longest deep;
       }
 
 -- the lists after a push
@@ -352,7 +334,7 @@ tails_drop lists tails n r l long = along n r (list_of lists r) l refl long
     along (suc n) r [] l is h = absurd (omega arith)
     along (suc n) r (q ∷ kinds) l is h = let t = tails r q kinds l is in along n t.0 kinds t.1 t.2 (omega arith)
 
-module _ (lists : List (List BaseType)) (nodes : List Node) (ints booleans : List (Option ℕ)) (deepest : ℕ) (s : IsShared lists nodes ints booleans deepest) where
+module _ (lists : List (List BaseType)) (nodes : List Node) (ints booleans : List (Option ℕ)) (s : IsShared lists nodes ints booleans) where
   pub node_at : (list : ℕ) (node : Node) → list < length lists → node ≡ get_or nodes list node → IsNode lists list node
   node_at list node l is = subst (IsNode lists list) (sym is) (s.node list node (omega (arith, s.long)))
 
@@ -361,5 +343,5 @@ module _ (lists : List (List BaseType)) (nodes : List Node) (ints booleans : Lis
 
   pub skip_missing : (list : ℕ) (node : Node) (kind : BaseType) → IsNode lists list node → list < length lists → 64 ≤ node.depth → drop 63 (list_of lists list) ≡ kind ∷ drop 64 (list_of lists list) → ((k : ℕ) → k < length lists → list_of lists k ≢ kind ∷ list_of lists node.skip) → ⊥
   skip_missing list node kind h l long last none =
-      let t = tails_drop lists (tails_of lists nodes ints booleans deepest s) 63 list l (omega (arith, h.depth)) in
+      let t = tails_drop lists (tails_of lists nodes ints booleans s) 63 list l (omega (arith, h.depth)) in
       none t.0 t.1 (t.2 ∙ last ∙ ap (λ ks. kind ∷ ks) (sym h.skip))

@@ -10,6 +10,10 @@ use Rattle.verifier.specs.declared.operands.Top.TheVariants as top
 abbrev pub list_of : List (List BaseType) → ℕ → List BaseType
 list_of lists k = slice_index_or lists k []
 
+-- the list 0 is there and empty
+abbrev pub StartsWithEmpty : List (List BaseType) → Type 0
+StartsWithEmpty lists = (0 < length lists) × (list_of lists 0 ≡ [])
+
 -- the list with this on top of another one; where nothing is on top, the empty one
 abbrev pub on_top : Top → List BaseType → List BaseType
 on_top top.Nothing kinds = []
@@ -80,13 +84,8 @@ pub record IsNode (lists : List (List BaseType)) (k : ℕ) (node : Node) : Type 
   pub skip : list_of lists node.skip ≡ drop 64 (list_of lists k)
   pub skips : node.skip ≤ k
 
--- how many operands the longest list has
-pub record IsLongest (lists : List (List BaseType)) (depth : ℕ) : Type 0 where
-  pub bounds : (k : ℕ) → k < length lists → length (list_of lists k) ≤ depth
-  pub there : (k : ℕ) × ((k < length lists) × (length (list_of lists k) ≡ depth))
-
 -- nodes are shared: each list is there once, and is found from the list below
-pub record IsShared (lists : List (List BaseType)) (nodes : List Node) (ints booleans : List (Option ℕ)) (deepest : ℕ) : Type 0 where
+pub record IsShared (lists : List (List BaseType)) (nodes : List Node) (ints booleans : List (Option ℕ)) : Type 0 where
   pub some : 0 < length lists
   pub root : list_of lists 0 ≡ []
   pub long : length lists ≡ length nodes
@@ -94,4 +93,3 @@ pub record IsShared (lists : List (List BaseType)) (nodes : List Node) (ints boo
   pub int_above : HasAbove Int lists ints
   pub boolean_above : HasAbove Boolean lists booleans
   pub distinct : (a b : ℕ) → a < length lists → b < length lists → list_of lists a ≡ list_of lists b → a ≡ b
-  pub longest : IsLongest lists deepest

@@ -13,7 +13,7 @@ use Rattle.verifier.specs.Boundaries.{KeepsBoundaries}
 use Rattle.verifier.specs.Coverage.{IsCoverage, Waits}
 use Rattle.verifier.specs.Depth.{IsMet}
 use Rattle.verifier.specs.Index.{index_of}
-use Rattle.verifier.specs.Operands.{list_of}
+use Rattle.verifier.specs.Operands.{StartsWithEmpty, list_of}
 use Rattle.verifier.specs.declared.search.ReachedOffsets.{ReachedOffsets}
 use Rattle.verifier.specs.declared.search.FlowRefusal.{FlowRefusal}
 use Rattle.verifier.specs.declared.work.ListedOffset.{ListedOffset}
@@ -63,18 +63,6 @@ unset (Some list ∷ shapes) = unset shapes
 abbrev pub left : ReachedOffsets → ℕ
 left s = unset s.shapes + length s.work
 
--- the list 0 is there and empty
-abbrev pub StartsWithEmpty : List (List BaseType) → Type 0
-StartsWithEmpty lists = (0 < length lists) × (list_of lists 0 ≡ [])
-
--- each list is one that an instruction finds or leaves, and none that is so is longer than all of them
-abbrev pub AreMet : ModuleContents → ProcedureContents → List (List BaseType) → Type 0
-AreMet m p lists = (k : ℕ) → k < length lists → IsMet m p (list_of lists k)
-
-pub record HaveLongest (m : ModuleContents) (p : ProcedureContents) (lists : List (List BaseType)) : Type 0 where
-  pub met : AreMet m p lists
-  pub longest : (kinds : List BaseType) → IsMet m p kinds → (k : ℕ) × ((k < length lists) × (length kinds ≤ length (list_of lists k)))
-
 -- the instruction of a number stands at an offset; where there is none more, the code ends there
 pub record StandsAt (p : ProcedureContents) (number offset : ℕ) : Type 0 where
   pub inside : number ≤ length p.code
@@ -92,8 +80,14 @@ pub record IsQueued (s : ReachedOffsets) (at : ℕ) : Type 0 where
   pub there : Contains s.work listed
   pub is : listed.at ≡ at
 
--- a search at work: its table is one of the flow, its lists are met, and each offset that has a list waits, is being looked at, or
--- is kept
+-- the longest list that control reached is one that an instruction finds or leaves, and has so many operands
+pub record IsLongest (m : ModuleContents) (p : ProcedureContents) (s : ReachedOffsets) : Type 0 where
+  pub there : s.longest < length s.operands
+  pub met : IsMet m p (list_of s.operands s.longest)
+  pub depth : length (list_of s.operands s.longest) ≡ s.deepest
+
+-- a search at work: its table is one of the flow, none of its lists is longer than the longest one, and each offset that has a list
+-- waits, is being looked at, or is kept
 pub record IsSearching (m : ModuleContents) (p : ProcedureContents) (s : ReachedOffsets) (busy : List ℕ) : Type 0 where
   pub root : StartsWithEmpty s.operands
   pub sized : length s.shapes ≡ length p.code
@@ -101,7 +95,8 @@ pub record IsSearching (m : ModuleContents) (p : ProcedureContents) (s : Reached
   pub begins : (offset : ℕ) (kinds : List BaseType) → table p s offset ≡ Some kinds → (i : Instruction) × (instruction_at p.code offset ≡ Some i)
   pub first : table p s 0 ≡ Some []
   pub flow : Flow m p (table p s)
-  pub met : AreMet m p s.operands
+  pub deep : (offset : ℕ) (kinds : List BaseType) → table p s offset ≡ Some kinds → length kinds ≤ s.deepest
+  pub longest : IsLongest m p s
   pub pending : (at : ℕ) (kinds : List BaseType) → table p s at ≡ Some kinds → IsQueued s at ⊎ (Contains busy at ⊎ HasFollowedEdges m p s at kinds)
   pub waits : (listed : ListedOffset) → Contains s.work listed → IsListed p s listed
 
@@ -109,7 +104,7 @@ pub record IsSearching (m : ModuleContents) (p : ProcedureContents) (s : Reached
 
 -- a search in which one more offset waits
 abbrev pub waiting : ReachedOffsets → ListedOffset → ReachedOffsets
-waiting s listed = record { operands = s.operands; shapes = s.shapes; work = s.work ++ listed ∷ [] }
+waiting s listed = record s { work = s.work ++ listed ∷ [] }
 
 -- where the instruction of a number jumps, if it may
 abbrev pub jump_of : Option Instruction → Option ℕ
@@ -128,6 +123,7 @@ pub record Flowed (m : ModuleContents) (p : ProcedureContents) (old new : Reache
   pub keeps : (offset : ℕ) (kinds : List BaseType) → table p old offset ≡ Some kinds → table p new offset ≡ Some kinds
   pub arrives : table p new to ≡ Some (list_of old.operands list)
   pub same : new.operands ≡ old.operands
+  pub deepest : new.deepest ≡ old.deepest
   pub left : left new ≤ left old
 
 -- control went on from a offset: lists were kept, and none was made
@@ -135,7 +131,25 @@ pub record KeepsSearching (m : ModuleContents) (p : ProcedureContents) (old new 
   pub searching : IsSearching m p new (at ∷ [])
   pub keeps : (offset : ℕ) (kinds : List BaseType) → table p old offset ≡ Some kinds → table p new offset ≡ Some kinds
   pub same : new.operands ≡ old.operands
+  pub deepest : new.deepest ≡ old.deepest
   pub left : left new ≤ left old
+
+-- a list is noted as the longest one
+pub record IsNewLongest (s : ReachedOffsets) (kinds : List BaseType) : Type 0 where
+  pub there : s.longest < length s.operands
+  pub list : list_of s.operands s.longest ≡ kinds
+  pub depth : s.deepest ≡ length kinds
+
+-- the longest list stays
+pub record KeepsLongest (old new : ReachedOffsets) : Type 0 where
+  pub longest : new.longest ≡ old.longest
+  pub depth : new.deepest ≡ old.deepest
+
+-- a list was noted as the longest one, if none was as long
+pub record IsLengthened (old new : ReachedOffsets) (kinds : List BaseType) : Type 0 where
+  pub least : length kinds ≤ new.deepest
+  pub deeper : old.deepest ≤ new.deepest
+  pub either : IsNewLongest new kinds ⊎ KeepsLongest old new
 
 -- an instruction changed the list of its offset, and control went where it jumps
 pub record IsApplied (m : ModuleContents) (p : ProcedureContents) (old new : ReachedOffsets) (at : ℕ) : Type 0 where

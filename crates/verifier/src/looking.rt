@@ -7,7 +7,7 @@ ghost use Rattle.verifier.specs.Boundaries.{KeepsBoundaries};
 ghost use Rattle.verifier.specs.Positions.{positioned};
 ghost use Rattle.verifier.specs.Refusals.{IsCodeRefusal};
 ghost use Rattle.verifier.specs.Search.{IsSearchableBody};
-ghost use Rattle.verifier.specs.Verified.{HasCodes, AddsVerifiedCode, IsOperandRefusalOf};
+ghost use Rattle.verifier.specs.Verified.{HasCodes, FlowsOn, IsOperandRefusalOf};
 
 use crate::body::IndexedProcedure;
 use crate::fault::{CodeRefusal, VerifyFault};
@@ -17,12 +17,13 @@ use crate::parameters::PackedModule;
 use crate::positions::Code;
 use crate::search::{FlowRefusal, FlowSearch};
 use common::OrNoMemory;
-use modules::Instruction;
+use modules::{Instruction, Procedure};
 use std::alloc::Global;
 
-/// What is kept of the procedures of a module: the code of each, and the index of that code.
+/// What is kept of the procedures of a module: the code of all, where that of each begins, and its index.
 #[derive(Drop)]
 pub(crate) struct CheckedCode {
+    pub placed: Vec<Instruction>,
     pub codes: Vec<Code>,
     pub indexes: Vec<Index>,
 }
@@ -35,11 +36,12 @@ pub(crate) fn look_for_refusals(
     alloc: Global,
     program: &PackedModule,
 ) -> Result<CheckedCode, VerifyFault>
-    ensures accepted { IfOk result (λ kept. HasCodes program.now kept.codes.items
-        kept.indexes.items) }
+    ensures accepted { IfOk result (λ kept. HasCodes program.now kept.placed.items
+        kept.codes.items kept.indexes.items) }
     ensures rejected { IfErr result (IfRefused (IsCodeRefusal program.now)) }
 {
     let procedures = program.procedures();
+    let mut placed = Vec::with_capacity(alloc, count_instructions(procedures))?;
     let mut codes = Vec::with_capacity(alloc, procedures.len())?;
     let mut indexes = Vec::with_capacity(alloc, procedures.len())?;
     let mut search = FlowSearch::new(alloc)?;
@@ -47,52 +49,70 @@ pub(crate) fn look_for_refusals(
     let mut number = 0;
     for procedure in procedures {
         let body = IndexedProcedure::new(alloc, program, procedure)?;
-        let placed = place_code(alloc, &body, number)?;
-        found = look_for_flow_refusal(&mut search, &body, number, found, placed, &mut codes)?;
+        let start = placed.len();
+        place_code(&body, number, &mut placed)?;
+        let flow = look_for_flow_refusal(&mut search, &body, number, found, &placed[start..])?;
+        let (found_now, greatest_depth) = flow;
+        found = found_now;
+        codes.push(Code {
+            start,
+            greatest_depth,
+        })?;
         indexes.push(body.index)?;
         number += 1;
     }
     match found {
-        None => Ok(CheckedCode { codes, indexes }),
+        None => Ok(CheckedCode {
+            placed,
+            codes,
+            indexes,
+        }),
         Some(refusal) => Err(OrNoMemory::Refused(refusal)),
     }
 }
 
-// Looks for a refusal of the flow of a procedure whose targets are right, unless one was found before. Where there is
-// none, the procedure's code is added, which is placed.
+// How many instructions procedures have.
+fn count_instructions(procedures: &[Procedure]) -> usize {
+    let mut count: usize = 0;
+    for procedure in procedures {
+        count = count.saturating_add(procedure.code().len());
+    }
+    count
+}
+
+// Looks for a refusal of the flow of a procedure whose targets are right, unless one was found before. Where there is none, also the
+// greatest number of operands is answered.
 fn look_for_flow_refusal(
     search: &mut FlowSearch,
     body: &IndexedProcedure,
     number: u32,
     found: Option<CodeRefusal>,
-    placed: Vec<Instruction>,
-    codes: &mut Vec<Code>,
-) -> Result<Option<CodeRefusal>, VerifyFault>
-    requires placed { placed.items ≡ positioned body.now.procedure.now.code }
+    placed: &[Instruction],
+) -> Result<(Option<CodeRefusal>, u32), VerifyFault>
+    requires placed { placed.now ≡ positioned body.now.procedure.now.code }
     requires boundaries { KeepsBoundaries body.now.procedure.now }
     requires body { IsSearchableBody body.now }
     requires few { length body.now.procedure.now.handlers < 2 ^ 32 }
-    ensures none { IfOk result (λ found_now. IfNone found_now (
-        AddsVerifiedCode body.now.program.now body.now.procedure.now found
-        codes.old.items codes.new.items)) }
-    ensures some { IfOk result (λ found_now. IfSome found_now (λ refusal.
+    ensures none { IfOk result (λ looked. IfNone looked.0 (
+        FlowsOn body.now.program.now body.now.procedure.now found looked.1)) }
+    ensures some { IfOk result (λ looked. IfSome looked.0 (λ refusal.
         (found ≡ Some refusal)
         ⊎ IsOperandRefusalOf body.now.program.now number body.now.procedure.now refusal)) }
     ensures no_memory { IfErr result (λ fault. fault ≡ NoMemory) }
 {
     if found.is_some() {
-        return Ok(found);
+        return Ok((found, 0));
     }
-    match search.find_refusal(body, placed.as_slice()) {
-        Ok(greatest_depth) => {
-            codes.push(Code::new(placed, greatest_depth))?;
-            Ok(None)
-        }
+    match search.find_refusal(body, placed) {
+        Ok(greatest_depth) => Ok((None, greatest_depth)),
         Err(OrNoMemory::NoMemory) => Err(OrNoMemory::NoMemory),
-        Err(OrNoMemory::Refused(FlowRefusal { kind, offset })) => Ok(Some(CodeRefusal {
-            kind,
-            procedure: number,
-            offset,
-        })),
+        Err(OrNoMemory::Refused(FlowRefusal { kind, offset })) => {
+            let refusal = CodeRefusal {
+                kind,
+                procedure: number,
+                offset,
+            };
+            Ok((Some(refusal), 0))
+        }
     }
 }

@@ -1,7 +1,7 @@
 //! The kinds of the operands with which control reaches instructions, as lists that share what is below.
 
 ghost use Rattle.verifier.specs.Flow.{Leaves, Misses, all_popped, between, popped};
-ghost use Rattle.verifier.specs.Operands.{above_of, bit, full_blocks, list_of, noted, on_top, packed, IsLonger};
+ghost use Rattle.verifier.specs.Operands.{StartsWithEmpty, above_of, bit, full_blocks, list_of, noted, on_top, packed, IsLonger};
 ghost use Rattle.verifier.specs.declared.operands.Node.{Node as TheNode};
 ghost use Rattle.std.specs.Prelude.{◌≡◌, ◌≢◌, ◌+◌, ◌*◌, ◌<◌, ◌≤◌, ◌^◌, ℕ, List, Some, ◌∷◌, [], IfOk, IfErr, IfNone, IfSome, OnOk, drop, length, map, set, slice_index_or};
 ghost use Rattle.common.specs.declared.base_type.BaseType.{BaseType};
@@ -16,6 +16,9 @@ const HIGHEST: u64 = 1 << 63;
 
 // For how many lists there is room at first: most procedures have no more.
 const FEW: usize = 16;
+
+// How many lists may be kept from one search for another.
+const MANY: usize = 1 << 16;
 
 /// What is on top of a list: an operand of a kind, or nothing.
 #[derive(Clone, Copy, Debug)]
@@ -138,8 +141,6 @@ fn note(nodes: &mut Vec<Node>, kind: BaseType, list: u32, above: u32)
 pub struct Operands {
     // The node of each list.
     nodes: Vec<Node>,
-    // How many operands the longest list has.
-    deepest: u32,
 }
 
 impl Model for Operands {
@@ -152,7 +153,7 @@ impl Model for Operands {
     ghost view = { λ o. spelled [] o.nodes.items };
 
     ghost invariant = { λ o. IsShared (spelled [] o.nodes.items) o.nodes.items (ints_of o.nodes.items)
-        (booleans_of o.nodes.items) o.deepest };
+        (booleans_of o.nodes.items) };
 }
 
 impl Operands {
@@ -162,16 +163,20 @@ impl Operands {
     {
         let mut nodes = Vec::with_capacity(alloc, FEW)?;
         nodes.push_reserved(EMPTY);
-        Ok(Operands { nodes, deepest: 0 })
+        Ok(Operands { nodes })
     }
 
-    /// The empty list alone again.
-    pub fn restart(&mut self)
-        ensures { self.new ≡ [] ∷ [] }
+    /// The lists for another search, in which there are up to so many more: those that are there, unless there would be too many; then
+    /// the empty one alone.
+    pub fn restart(&mut self, more: usize)
+        requires { more < 2 ^ 32 }
+        ensures starts { StartsWithEmpty self.new }
+        ensures room { length self.new + more ≤ 2 ^ 32 }
     {
-        self.nodes.clear();
-        self.nodes.push_reserved(EMPTY);
-        self.deepest = 0;
+        if more > MANY || self.nodes.len() > MANY {
+            self.nodes.clear();
+            self.nodes.push_reserved(EMPTY);
+        }
     }
 
     /// The list with one more operand on it.
@@ -235,7 +240,6 @@ impl Operands {
             boolean: 0,
         })?;
         note(&mut self.nodes, kind, list, above);
-        self.deepest = self.deepest.max(depth);
         Ok(above)
     }
 
@@ -259,6 +263,8 @@ impl Operands {
     pub fn pop(&self, list: u32, wanted: Option<BaseType>) -> Result<u32, CodeRefusalKind>
         requires { list < length self.now }
         ensures there { IfOk result (λ r. r < length self.now) }
+        ensures fewer { IfOk result (λ r. length (list_of self.now r)
+            ≤ length (list_of self.now list)) }
         ensures accepted { IfOk result (λ r.
             popped wanted (list_of self.now list) ≡ Leaves (list_of self.now r)) }
         ensures rejected { IfErr result (λ kind.
@@ -273,6 +279,8 @@ impl Operands {
     pub fn pop_all(&self, list: u32, kinds: &[Option<BaseType>]) -> Result<u32, CodeRefusalKind>
         requires { list < length self.now }
         ensures there { IfOk result (λ r. r < length self.now) }
+        ensures fewer { IfOk result (λ r. length (list_of self.now r)
+            ≤ length (list_of self.now list)) }
         ensures accepted { IfOk result (λ r.
             all_popped kinds.now (list_of self.now list) ≡ Leaves (list_of self.now r)) }
         ensures rejected { IfErr result (λ kind.
@@ -306,6 +314,7 @@ impl Operands {
         requires { list < length self.now }
         ensures there { result.0 < length self.now }
         ensures few { result.1 ≤ length blocks.now }
+        ensures fewer { length (list_of self.now result.0) ≤ length (list_of self.now list) }
         ensures same { (kinds : List BaseType) → blocks.now ≡ full_blocks kinds →
             all_popped (map (λ kind. Some kind) kinds) (list_of self.now list)
             ≡ all_popped (map (λ kind. Some kind) (drop (result.1 * 64) kinds))
@@ -323,20 +332,13 @@ impl Operands {
         (rest, count)
     }
 
-    fn depth(&self, list: u32) -> u32
+    /// How many operands a list has.
+    pub fn depth(&self, list: u32) -> u32
         requires { list < length self.now }
         ensures value { result ≡ length (list_of self.now list) }
         ensures few { result ≤ list }
     {
         self.nodes[list as usize].depth
-    }
-
-    /// How many operands the longest list has.
-    pub fn greatest_depth(&self) -> u32
-        ensures bounds { (k : ℕ) → k < length self.now → length (list_of self.now k) ≤ result }
-        ensures there { (k : ℕ) × ((k < length self.now) × (length (list_of self.now k) ≡ result)) }
-    {
-        self.deepest
     }
 
     /// Whether two lists are the same, or else what is wrong where they meet.

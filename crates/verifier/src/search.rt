@@ -7,15 +7,15 @@ ghost use Rattle.common.specs.declared.base_type.BaseType.{BaseType};
 ghost use Rattle.common.specs.Answers.{IfRefused};
 ghost use Rattle.common.specs.declared.fault.OrNoMemory.TheVariants.{Refused};
 ghost use Rattle.std.specs.List.{Contains};
-ghost use Rattle.std.specs.Prelude.{List, Some, false, is_some, slice_get, true, ℕ, [], ◌≡◌, ◌+◌, ◌<◌, ◌≤◌, ◌^◌, ◌∷◌, IfErr, IfNone, IfOk, OnOk, length};
+ghost use Rattle.std.specs.Prelude.{List, None, Some, false, is_some, replicate, set, slice_get, true, ℕ, [], ◌≡◌, ◌+◌, ◌<◌, ◌≤◌, ◌^◌, ◌∷◌, IfErr, IfNone, IfOk, OnOk, length};
 ghost use Rattle.modules.specs.Targets as targets;
 ghost use Rattle.verifier.specs.Flow.{FlowsWell};
 ghost use Rattle.verifier.specs.Depth.{IsGreatestDepth};
-ghost use Rattle.verifier.specs.Operands.{list_of};
+ghost use Rattle.verifier.specs.Operands.{IsLonger, StartsWithEmpty, list_of};
 ghost use Rattle.verifier.specs.Boundaries.{IsBoundary, KeepsBoundaries};
 ghost use Rattle.verifier.specs.Positions.{positioned};
 ghost use Rattle.verifier.specs.Work.{listed_at};
-ghost use Rattle.verifier.specs.Search.{jump_of, Flowed, HasEffect, HaveLongest, HasInstruction, IsApplied, IsAtEdge, IsSearchableBody, IsListed, IsSearchingNext, IsSearching, IsOperandFlowRefusal, IsWaiting, IsRaising, HasRaised, StandsAt, count, left, table, waiting};
+ghost use Rattle.verifier.specs.Search.{jump_of, Flowed, HasEffect, HasInstruction, IsApplied, IsAtEdge, IsLengthened, IsSearchableBody, IsListed, IsSearchingNext, IsSearching, IsOperandFlowRefusal, IsWaiting, IsRaising, HasRaised, StandsAt, count, left, table, waiting};
 
 use crate::body::IndexedProcedure;
 use crate::coverage::Coverage;
@@ -75,6 +75,9 @@ pub(crate) struct ReachedOffsets {
     // The number of the list of each instruction that has one.
     shapes: Numbers,
     work: Work,
+    // The longest list that control reached, and how many operands it has.
+    longest: u32,
+    deepest: u32,
 }
 
 impl ReachedOffsets {
@@ -89,7 +92,29 @@ impl ReachedOffsets {
             operands,
             shapes,
             work,
+            longest: 0,
+            deepest: 0,
         })
+    }
+
+    // A search that has not begun, for this many instructions. Lists that were made for others are kept.
+    fn restart(&mut self, count: usize) -> Result<(), AllocError>
+        requires some { 0 < count }
+        requires few { count < 2 ^ 32 }
+        ensures lists { OnOk result (StartsWithEmpty self.new.operands) }
+        ensures room { OnOk result (length self.new.operands + count ≤ 2 ^ 32) }
+        ensures shapes { OnOk result (self.new.shapes ≡ set (replicate count None) 0 (Some 0)) }
+        ensures work { OnOk result (self.new.work ≡ listed_at 0 0 0 ∷ []) }
+        ensures longest { OnOk result (self.new.longest ≡ 0) }
+        ensures deepest { OnOk result (self.new.deepest ≡ 0) }
+    {
+        self.operands.restart(count);
+        self.shapes.restart(count)?;
+        self.shapes.set(0, 0);
+        self.work.restart()?;
+        self.longest = 0;
+        self.deepest = 0;
+        Ok(())
     }
 
     // Control goes from an offset to another one with a list, to the instruction of a number, or to the end. Answers whether it is the
@@ -107,6 +132,7 @@ impl ReachedOffsets {
         requires edge { IsAtEdge body.now.program.now body.now.procedure.now self.old at to
             (list_of self.old.operands list) }
         requires list { list < length self.old.operands }
+        requires deep { length (list_of self.old.operands list) ≤ self.old.deepest }
         requires place { StandsAt body.now.procedure.now number to }
         requires room { length self.old.operands + left self.old ≤ 2 ^ 32 }
         ensures first { IfOk result (λ first. first ≡ true → Flowed body.now.program.now
@@ -148,6 +174,7 @@ impl ReachedOffsets {
         requires edge { IsAtEdge body.now.program.now body.now.procedure.now self.old at to
             (list_of self.old.operands list) }
         requires list { list < length self.old.operands }
+        requires deep { length (list_of self.old.operands list) ≤ self.old.deepest }
         requires place { StandsAt body.now.procedure.now number to }
         requires body { IsSearchableBody body.now }
         requires room { length self.old.operands + left self.old ≤ 2 ^ 32 }
@@ -166,8 +193,33 @@ impl ReachedOffsets {
         Ok(())
     }
 
+    // The list with one more operand on it. It is noted if no list had as many operands.
+    #[inline(always)]
+    fn push(&mut self, list: u32, kind: BaseType) -> Result<u32, AllocError>
+        requires there { list < length self.old.operands }
+        requires room { length self.old.operands < 2 ^ 32 }
+        ensures longer { OnOk result (IsLonger self.old.operands self.new.operands) }
+        ensures few { OnOk result (length self.new.operands ≤ length self.old.operands + 1) }
+        ensures there { IfOk result (λ r. r < length self.new.operands) }
+        ensures made { IfOk result (λ r. list_of self.new.operands r
+            ≡ kind ∷ list_of self.old.operands list) }
+        ensures longest { OnOk result (IsLengthened self.old self.new
+            (kind ∷ list_of self.old.operands list)) }
+        ensures shapes { OnOk result (self.new.shapes ≡ self.old.shapes) }
+        ensures work { OnOk result (self.new.work ≡ self.old.work) }
+    {
+        let above = self.operands.push(list, kind)?;
+        let depth = self.operands.depth(list);
+        if self.deepest <= depth {
+            self.deepest = depth + 1;
+            self.longest = above;
+        }
+        Ok(above)
+    }
+
     // The list that an instruction at an offset leaves, once control went with it where the instruction jumps. What pushes does not
-    // jump.
+    // jump. It is inlined, as the two loops call it.
+    #[inline(always)]
     fn apply(
         &mut self,
         body: &IndexedProcedure,
@@ -187,6 +239,8 @@ impl ReachedOffsets {
         ensures accepted { OnOk result (IsApplied body.now.program.now body.now.procedure.now
             self.old self.new listed.at) }
         ensures there { IfOk result (λ r. r < length self.new.operands) }
+        ensures deep { IfOk result (λ r. length (list_of self.new.operands r)
+            ≤ self.new.deepest) }
         ensures effect { IfOk result (λ r. HasEffect body.now.program.now body.now.procedure.now
             self.new listed.at instruction (list_of self.new.operands r)) }
         ensures jumps { IfOk result (λ r. (to : ℕ) → targets.target_of instruction ≡ Some to →
@@ -196,7 +250,7 @@ impl ReachedOffsets {
     {
         match exchange(&self.operands, body, instruction, listed.list) {
             Err(kind) => Err(refuse(kind, listed.at)),
-            Ok((rest, Some(kind))) => Ok(self.operands.push(rest, kind)?),
+            Ok((rest, Some(kind))) => Ok(self.push(rest, kind)?),
             Ok((rest, None)) => {
                 if let Some(to) = instruction.target() {
                     let number = target_in(placed, listed.number);
@@ -207,18 +261,23 @@ impl ReachedOffsets {
         }
     }
 
-    // Control goes to each handler whose range holds the offset. Where it went before, it need not go again.
-    fn raise(
+    // Control goes to each handler whose range holds the offset. Where it went before, it need not go again. A procedure without
+    // handlers need not look for one.
+    fn raise<const HANDLED: bool>(
         &mut self,
         body: &IndexedProcedure,
         coverage: &mut Coverage,
         at: u32,
     ) -> Result<(), FlowFault>
-        requires { IsRaising body.now coverage.old self.old at }
+        requires raising { IsRaising body.now coverage.old self.old at }
+        requires none { HANDLED ≡ false → body.now.procedure.now.handlers ≡ [] }
         ensures accepted { OnOk result (HasRaised body.now coverage.new self.old self.new at) }
         ensures rejected { IfErr result (IfRefused
             (IsOperandFlowRefusal body.now.program.now body.now.procedure.now)) }
     {
+        if !HANDLED {
+            return Ok(());
+        }
         if coverage.may_cover(at) {
             self.catch(body, coverage, at)
         } else {
@@ -277,6 +336,7 @@ impl ReachedOffsets {
         requires effect { HasEffect body.now.program.now body.now.procedure.now self.old at
             instruction (list_of self.old.operands list) }
         requires list { list < length self.old.operands }
+        requires deep { length (list_of self.old.operands list) ≤ self.old.deepest }
         requires number { offset_at body.now.procedure.now.code number ≡ at }
         requires jumps { (to : ℕ) → targets.target_of instruction ≡ Some to → table
             body.now.procedure.now self.old to
@@ -313,7 +373,7 @@ impl ReachedOffsets {
     }
 
     // Looks at an offset: control goes on from it along each edge.
-    fn visit(
+    fn visit<const HANDLED: bool>(
         &mut self,
         body: &IndexedProcedure,
         placed: &[Instruction],
@@ -322,6 +382,7 @@ impl ReachedOffsets {
         instruction: Instruction,
     ) -> Result<Option<ListedOffset>, FlowFault>
         requires placed { placed.now ≡ positioned body.now.procedure.now.code }
+        requires none { HANDLED ≡ false → body.now.procedure.now.handlers ≡ [] }
         requires searching { IsSearching body.now.program.now body.now.procedure.now self.old
             (listed.at ∷ []) }
         requires listed { IsListed body.now.procedure.now self.old listed }
@@ -345,13 +406,13 @@ impl ReachedOffsets {
             list: _,
         } = listed;
         let after = self.apply(body, placed, listed, instruction)?;
-        self.raise(body, coverage, at)?;
+        self.raise::<HANDLED>(body, coverage, at)?;
         let next = self.go_on(body, at, number, instruction, after)?;
         Ok(next)
     }
 
     // Looks at an offset of the procedure's code.
-    fn look(
+    fn look<const HANDLED: bool>(
         &mut self,
         body: &IndexedProcedure,
         placed: &[Instruction],
@@ -360,6 +421,7 @@ impl ReachedOffsets {
         listed: ListedOffset,
     ) -> Result<Option<ListedOffset>, FlowFault>
         requires placed { placed.now ≡ positioned body.now.procedure.now.code }
+        requires none { HANDLED ≡ false → body.now.procedure.now.handlers ≡ [] }
         requires code { code.now ≡ body.now.procedure.now.code }
         requires searching { IsSearching body.now.program.now body.now.procedure.now self.old
             (listed.at ∷ []) }
@@ -378,7 +440,7 @@ impl ReachedOffsets {
             (IsOperandFlowRefusal body.now.program.now body.now.procedure.now)) }
     {
         let instruction = code[listed.number as usize];
-        self.visit(body, placed, coverage, listed, instruction)
+        self.visit::<HANDLED>(body, placed, coverage, listed, instruction)
     }
 
     // What is to be looked at next: the offset to which control goes straight on, or else the one that came last of those that wait.
@@ -389,6 +451,8 @@ impl ReachedOffsets {
         ensures left { left self.new + count result ≤ left self.old + count next }
         ensures operands { self.new.operands ≡ self.old.operands }
         ensures shapes { self.new.shapes ≡ self.old.shapes }
+        ensures longest { self.new.longest ≡ self.old.longest }
+        ensures deepest { self.new.deepest ≡ self.old.deepest }
     {
         match next {
             Some(_) => next,
@@ -399,28 +463,30 @@ impl ReachedOffsets {
     // Looks at each offset that waits, and at those to which control goes straight on from there, until none waits. It is not inlined, so
     // that the loop has all registers for itself.
     #[inline(never)]
-    fn run(
+    fn run<const HANDLED: bool>(
         &mut self,
         body: &IndexedProcedure,
         placed: &[Instruction],
         coverage: &mut Coverage,
     ) -> Result<(), FlowFault>
         requires placed { placed.now ≡ positioned body.now.procedure.now.code }
+        requires none { HANDLED ≡ false → body.now.procedure.now.handlers ≡ [] }
         requires searching { IsSearching body.now.program.now body.now.procedure.now self.old [] }
         requires boundaries { KeepsBoundaries body.now.procedure.now }
         requires waiting { IsWaiting body.now.procedure.now coverage.old self.old }
         requires body { IsSearchableBody body.now }
         requires room { length self.old.operands + left self.old ≤ 2 ^ 32 }
         ensures accepted { OnOk result (FlowsWell body.now.program.now body.now.procedure.now) }
-        ensures longest { OnOk result (HaveLongest body.now.program.now body.now.procedure.now
-            self.new.operands) }
+        ensures longest { OnOk result (self.new.longest < length self.new.operands) }
+        ensures depth { OnOk result (IsGreatestDepth body.now.program.now body.now.procedure.now
+            (length (list_of self.new.operands self.new.longest))) }
         ensures rejected { IfErr result (IfRefused
             (IsOperandFlowRefusal body.now.program.now body.now.procedure.now)) }
     {
         let code = body.procedure.code();
         let mut next = self.take_next(None);
         while let Some(listed) = next {
-            let after = self.look(body, placed, code, coverage, listed)?;
+            let after = self.look::<HANDLED>(body, placed, code, coverage, listed)?;
             next = self.take_next(after);
         }
         Ok(())
@@ -465,11 +531,12 @@ impl FlowSearch {
             return Err(refuse(CodeRefusalKind::FallsOffEnd, 0));
         }
         self.coverage.restart(body.procedure.handlers())?;
-        self.reached.operands.restart();
-        self.reached.shapes.restart(count)?;
-        self.reached.shapes.set(0, 0);
-        self.reached.work.restart()?;
-        self.reached.run(body, placed, &mut self.coverage)?;
-        Ok(self.reached.operands.greatest_depth())
+        self.reached.restart(count)?;
+        if body.procedure.handlers().is_empty() {
+            self.reached.run::<false>(body, placed, &mut self.coverage)?;
+        } else {
+            self.reached.run::<true>(body, placed, &mut self.coverage)?;
+        }
+        Ok(self.reached.operands.depth(self.reached.longest))
     }
 }

@@ -22,7 +22,8 @@ use std::marker::Model;
 #[derive(Debug, Drop)]
 pub struct Verified {
     inner: Module,
-    // The code of each procedure, and the index of that code.
+    // The code of all procedures, one after the other, where that of each begins, and its index.
+    placed: Vec<Instruction>,
     codes: Vec<Code>,
     indexes: Vec<Index>,
 }
@@ -35,7 +36,7 @@ impl Model for Verified {
 
     ghost view = { λ v. v.inner };
 
-    ghost invariant = { λ v. HasCodes v.inner v.codes.items v.indexes.items };
+    ghost invariant = { λ v. HasCodes v.inner v.placed.items v.codes.items v.indexes.items };
 }
 
 impl Verified {
@@ -64,7 +65,9 @@ impl Verified {
         requires { procedure < length self.now.procedures }
         ensures { result.now ≡ positioned (code_of (slice_get self.now.procedures procedure)) }
     {
-        self.codes[procedure as usize].instructions()
+        let start = self.codes[procedure as usize].start;
+        let count = self.inner.procedures()[procedure as usize].code().len();
+        &self.placed[start..start + count]
     }
 
     /// For each procedure the index of its code. It takes no memory.
@@ -81,7 +84,7 @@ impl Verified {
         ensures { (p : ProcedureContents) → slice_get self.now.procedures procedure ≡ Some p
             → IsGreatestDepth self.now p result }
     {
-        self.codes[procedure as usize].greatest_depth()
+        self.codes[procedure as usize].greatest_depth
     }
 }
 
@@ -97,9 +100,14 @@ pub fn verify(alloc: Global, program: Module) -> Result<Verified, VerifyFault>
     ensures rejected { IfErr result (IfRefused (IsCodeRefusal program)) }
 {
     let packed = PackedModule::new(alloc, program)?;
-    let CheckedCode { codes, indexes } = look_for_refusals(alloc, &packed)?;
+    let CheckedCode {
+        placed,
+        codes,
+        indexes,
+    } = look_for_refusals(alloc, &packed)?;
     Ok(Verified {
         inner: packed.into_module(),
+        placed,
         codes,
         indexes,
     })

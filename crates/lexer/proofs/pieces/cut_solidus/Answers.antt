@@ -2,6 +2,7 @@ use Rattle.std.proofs.Common.{◌≡◌, ◌∷◌, ℕ, List, Option, [], lengt
 use Rattle.std.specs.Str.{chars}
 use Rattle.std.specs.Str.Iter.{chars_rest, chars_steps}
 use Rattle.lexer.specs.Cut.{IsNextLexeme}
+use Rattle.lexer.specs.KindOf.{kind_of}
 use Rattle.lexer.specs.Lexeme.{Word}
 use Rattle.lexer.specs.declared.token.Kind.TheVariants.{Slash}
 use Rattle.lexer.proofs.Nexts.{next_solidus, IsNotFirst}
@@ -40,7 +41,7 @@ returns-in-None c =
 
 -- the sign alone
 alone : (text after : List ℕ) → text ≡ 47 ∷ after → IsNotFirst 47 after × IsNotFirst 42 after
-    → (front : List ℕ) × IsNextLexeme text (Word Slash) front after
+    → (front : List ℕ) × IsNextLexeme text (Word (kind_of Slash)) front after
 alone text after e none = (47 ∷ [], moved _ _ _ _ _ _ _ _ (sym e) refl refl refl (next_solidus after none.0 none.1))
 
 pub returns-in_default : goal.returns-in_default

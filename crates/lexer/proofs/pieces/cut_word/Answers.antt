@@ -1,7 +1,7 @@
 use Rattle.std.proofs.Common.{refl, sym, ap, ◌∙◌, unwrap_or}
 use Rattle.std.specs.Str.{chars}
 use Rattle.lexer.specs.Lexeme.{Word}
-use Rattle.lexer.specs.Words.{keywords}
+use Rattle.lexer.specs.KindOf.{kind_of, keyword_rows}
 use Rattle.unicode_ident.specs.Ident.{is_xid_continue}
 use Rattle.lexer.specs.declared.token.Kind.TheVariants.{Name}
 use Rattle.lexer.proofs.Tables.{same_lookup}
@@ -15,5 +15,5 @@ pub returns : goal.returns
 returns c =
     let front = c.take_front.result.now in
     let read = word_read _ _ (chars c.args.after.now) _ (chars front) c.requires.split c.skip_run-rest.ensures c.requires.begins c.take_front.ensures in
-    let found = c.find_keyword.ensures ∙ same_lookup keywords refl front c.take_front.utf8 in
-    (chars front, moved _ _ _ _ _ _ _ _ refl (ap (λ o. Word (unwrap_or o Name)) (sym found) ∙ ap Word (sym c.unwrap_or-kind.ensures)) refl refl read)
+    let found = c.find_keyword.ensures ∙ same_lookup keyword_rows refl front c.take_front.utf8 in
+    (chars front, moved _ _ _ _ _ _ _ _ refl (ap (λ o. Word (kind_of (unwrap_or o Name))) (sym found) ∙ ap (λ k. Word (kind_of k)) (sym c.unwrap_or-kind.ensures)) refl refl read)

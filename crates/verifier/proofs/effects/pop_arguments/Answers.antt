@@ -20,6 +20,7 @@ loop-count-init c =
     record {
       inside = omega (arith, least);
       there = c.pop_blocks-below.ensures.there;
+      fewer = c.pop_blocks-below.ensures.fewer;
       same =
           c.pop_blocks-below.ensures.same (reversed c.args.callee.now.parameters c.args.callee.now.slots) c.requires.blocks
           ∙ ap (λ kinds. all_popped (map (λ kind. Some kind) kinds) (list_of c.args.operands.now c.pop_blocks-below.result.0)) (ap (λ s. drop (c.pop_blocks-below.result.1 * 64) (reversed c.args.callee.now.parameters s)) (sym c.slots-slots.ensures)
@@ -34,6 +35,7 @@ loop-count-preserved c =
     record {
       inside = omega (arith, v.inside);
       there = c.in_ok-rest.ensures.there;
+      fewer = omega (arith, v.fewer, c.in_ok-rest.ensures.fewer);
       same = v.same ∙ pop_step c.slots-slots.result.now (c.loop-count.count - 1) c.loop-count.count (Scalar Int) less inside c.kind.result c.kind.ensures (list_of c.args.operands.now c.loop-count.rest) (list_of c.args.operands.now c.in_ok-rest.rest) c.in_ok-rest.ensures.accepted;
     }
 

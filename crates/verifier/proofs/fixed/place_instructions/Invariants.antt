@@ -1,5 +1,4 @@
-use Rattle.std.proofs.Common.{◌≡◌, ◌≤◌, length, map, take, drop}
-use Rattle.std.specs.Vec.{vec_capacity, vec_len}
+use Rattle.std.proofs.Common.{◌≡◌, ◌++◌, map, take, drop}
 use Rattle.modules.specs.Code.{code_length}
 use Rattle.modules.specs.Targets.{renamed_instruction}
 use Rattle.verifier.specs.Fixed.{instruction_refusals}
@@ -10,7 +9,5 @@ use Rattle.verifier.proofs.fixed.place_instructions.Given as goal
 abbrev pub invariant-loop-number : goal.invariant-loop-number
 invariant-loop-number l = record {
   left : instruction_refusals l.body.program.now l.procedure l.body.procedure.now (code_length (take l.number l.code)) (drop l.number l.code) ≡ instruction_refusals l.body.program.now l.procedure l.body.procedure.now 0 l.code;
-  so_far : l.placed.items ≡ map (renamed_instruction (position_of l.body.procedure.now.code)) (take l.number l.code);
-  many : vec_len l.placed ≡ l.number;
-  room : length l.code ≤ vec_capacity l.placed;
+  so_far : l.places ≡ map (renamed_instruction (position_of l.body.procedure.now.code)) (take l.number l.code) ++ drop l.number l.code;
 }

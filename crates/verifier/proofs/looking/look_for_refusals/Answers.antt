@@ -5,16 +5,17 @@ use Rattle.common.specs.declared.fault.OrNoMemory.TheVariants.{NoMemory, Refused
 use Rattle.modules.specs.Contents.{ModuleContents}
 use Rattle.verifier.specs.Refusals.{IsCodeRefusal}
 use Rattle.verifier.specs.Verified.{own_refusals}
-use Rattle.std.proofs.Common.{◌≡◌, ◌<◌, ◌^◌, refl, get_or, drop, [], ℕ, Some, None, slice_get, length, arith, ap, sym, subst, ◌∙◌, ◌++◌, ◌∷◌, map, List, Option, ◌⊎◌, inl, inr}
+use Rattle.std.proofs.lemmas.List.{length_push}
+use Rattle.std.proofs.Common.{rules, ◌≡◌, ◌+◌, ◌<◌, ◌^◌, refl, get_or, drop, [], ℕ, Some, None, slice_get, length, arith, ap, sym, subst, ◌∙◌, ◌++◌, ◌∷◌, List, Option, ◌⊎◌, inl, inr}
 use Rattle.std.specs.Prelude.{IfNone, IfSome}
 use Rattle.modules.specs.Contents.{ProcedureContents}
 use Rattle.verifier.specs.Fixed.{fixed_refusals, procedure_refusals}
-use Rattle.verifier.specs.Verified.{AddsVerifiedCode, IsOperandRefusalOf}
+use Rattle.verifier.specs.Verified.{FlowsOn, IsOperandRefusalOf}
 use Rattle.verifier.specs.declared.fault.CodeRefusal.{CodeRefusal}
-use Rattle.verifier.proofs.Reported.{item_at, item_refusal, flow_more, depth_more, there_inside, all_flow, is_verified, reported_first, reported_flow}
+use Rattle.verifier.proofs.Reported.{item_at, item_refusal, flow_more, code_more, there_inside, all_flow, is_verified, reported_first, reported_flow}
 use Rattle.verifier.proofs.Bounds.{bounded}
 use Rattle.verifier.proofs.FixedRefusals.{boundaries, own_right, none_left, procedure_some, procedure_none}
-use Rattle.verifier.proofs.Positioned.{codes_more, all_codes, indexes_more, all_indexes, as_many, instructions_more}
+use Rattle.verifier.proofs.Positioned.{indexes_more, all_indexes}
 use Rattle.verifier.proofs.looking.look_for_refusals.Goals as goal
 
 pub new-requires-in-loop-procedure : goal.new-requires-in-loop-procedure
@@ -34,7 +35,7 @@ look_for_flow_refusal-requires-clause-few c =
 pub look_for_flow_refusal-requires-clause-boundaries : goal.look_for_flow_refusal-requires-clause-boundaries
 look_for_flow_refusal-requires-clause-boundaries c =
     boundaries c.in_ok-body.body.program.now c.in_ok-body.body.procedure.now
-    (own_right c.in_ok-body.body.program.now c.loop-procedure.number c.in_ok-body.body.procedure.now (sym c.in_ok-placed.ensures.right))
+    (own_right c.in_ok-body.body.program.now c.loop-procedure.number c.in_ok-body.body.procedure.now (sym c.in_ok-place_code.ensures.right))
 
 -- a procedure that is refused by itself makes its module refused
 module _ (m q : ModuleContents) (number index : ℕ) (procedures : List ProcedureContents) (item body : ProcedureContents) (same_module : q ≡ m) (same_procedure : body ≡ item) (is : item ≡ get_or procedures index item) (inside : index < length procedures) (are : procedures ≡ m.procedures) (same : slice_get (procedure_refusals m number (drop index procedures)) 0 ≡ slice_get (procedure_refusals m 0 procedures) 0) where
@@ -46,11 +47,11 @@ module _ (m q : ModuleContents) (number index : ℕ) (procedures : List Procedur
       ∙ sym same
       ∙ procedure_some m q number index procedures item body same_module same_procedure is inside (Some refusal) (sym wrong) refusal refl))
 
-pub returns-in_err-placed-clause-rejected : goal.returns-in_err-placed-clause-rejected
-returns-in_err-placed-clause-rejected c =
+pub returns-in_err-place_code-clause-rejected : goal.returns-in_err-place_code-clause-rejected
+returns-in_err-place_code-clause-rejected c =
     let l = c.loop-procedure in
-    let p = err_from_is_err_and c.from_residual-in_err-placed.result c.from_residual-in_err-placed.ensures.1 in
-    rw (p.1, p.2) (refused c.args.program.now c.in_ok-body.body.program.now l.number l.procedure-index c.procedures-procedures.result.now c.procedure-item.result c.in_ok-body.body.procedure.now c.in_ok-body.ensures.program c.in_ok-body.ensures.procedure c.procedure-item.is c.loop-procedure-test.true c.procedures-procedures.ensures.procedures l.invariant.same c.in_err-placed.field-0.0 c.in_err-placed.ensures.wrong)
+    let p = err_from_is_err_and c.from_residual-in_err-place_code.result c.from_residual-in_err-place_code.ensures.1 in
+    rw (p.1, p.2) (refused c.args.program.now c.in_ok-body.body.program.now l.number l.procedure-index c.procedures-procedures.result.now c.procedure-item.result c.in_ok-body.body.procedure.now c.in_ok-body.ensures.program c.in_ok-body.ensures.procedure c.procedure-item.is c.loop-procedure-test.true c.procedures-procedures.ensures.procedures l.invariant.same c.in_err-place_code.field-0.0 c.in_err-place_code.ensures.wrong)
 
 pub loop-procedure-preserved : goal.loop-procedure-preserved
 loop-procedure-preserved c =
@@ -59,30 +60,24 @@ loop-procedure-preserved c =
     let b = c.in_ok-body in
     let procedures = c.procedures-procedures.result.now in
     let are = c.procedures-procedures.ensures.procedures in
-    let now = c.in_ok-found in
-    let added : now.found ≡ None → AddsVerifiedCode b.body.program.now b.body.procedure.now l.found l.codes.items c.look_for_flow_refusal.new.codes.items =
-    λ e. subst (λ (o : Option CodeRefusal). IfNone o (AddsVerifiedCode b.body.program.now b.body.procedure.now l.found l.codes.items c.look_for_flow_refusal.new.codes.items)) e now.ensures.none in
+    let now = c.in_ok-flow in
+    let flows : now.flow.0 ≡ None → FlowsOn b.body.program.now b.body.procedure.now l.found now.flow.1 =
+    λ e. subst (λ (o : Option CodeRefusal). IfNone o (FlowsOn b.body.program.now b.body.procedure.now l.found now.flow.1)) e now.ensures.none in
     record {
       number_is = omega (arith, l.invariant.number_is);
       same =
-          sym (procedure_none m b.body.program.now l.number l.procedure-index procedures c.procedure-item.result b.body.procedure.now b.ensures.program b.ensures.procedure c.procedure-item.is c.loop-procedure-test.true None (sym c.in_ok-placed.ensures.right) refl)
+          sym (procedure_none m b.body.program.now l.number l.procedure-index procedures c.procedure-item.result b.body.procedure.now b.ensures.program b.ensures.procedure c.procedure-item.is c.loop-procedure-test.true None (sym c.in_ok-place_code.ensures.right) refl)
           ∙ l.invariant.same;
       found = λ refusal e. elim (subst (λ (o : Option CodeRefusal). IfSome o (λ f. (l.found ≡ Some f) ⊎ IsOperandRefusalOf b.body.program.now l.number b.body.procedure.now f)) e now.ensures.some) [
         | inl before ↦ l.invariant.found refusal before
         | inr here ↦ item_refusal m procedures are l.procedure-index c.procedure-item.result b.body.procedure.now c.procedure-item.is b.ensures.procedure c.loop-procedure-test.true b.body.program.now l.number refusal b.ensures.program l.invariant.number_is here
       ];
-      flow = λ e. flow_more m procedures are l.procedure-index c.procedure-item.result b.body.procedure.now c.procedure-item.is b.ensures.procedure c.loop-procedure-test.true b.body.program.now b.ensures.program (added e).flow (l.invariant.flow (added e).none_before);
-      codes_are = λ e.
-          let now_added = added e in
-          codes_more procedures (map (λ code. code.instructions) l.codes.items) (map (λ code. code.instructions) c.look_for_flow_refusal.new.codes.items) l.procedure-index _ b.body.procedure.now c.loop-procedure-test.true
-          (l.invariant.codes_are now_added.none_before) (ap (map (λ code. code.instructions)) now_added.added ∙ instructions_more l.codes.items now_added.last ∙ ap (λ i. map (λ code. code.instructions) l.codes.items ++ i ∷ []) now_added.code) (b.ensures.procedure ∙ c.procedure-item.is);
-      indexes_are = indexes_more procedures l.indexes.items c.push.new.self.items l.procedure-index _ b.body.procedure.now c.loop-procedure-test.true l.invariant.indexes_are
-          (c.in_ok-push.ensures.items ∙ ap (λ (i : List (Option ℕ)). l.indexes.items ++ i ∷ []) b.ensures.body.index) (b.ensures.procedure ∙ c.procedure-item.is);
-      depths = λ e.
-          let now_added = added e in
-          let long = as_many l.codes.items procedures l.procedure-index (omega (arith, c.loop-procedure-test.true)) (l.invariant.codes_are now_added.none_before) in
-          depth_more m procedures are l.procedure-index c.procedure-item.result b.body.procedure.now c.procedure-item.is b.ensures.procedure c.loop-procedure-test.true b.body.program.now b.ensures.program
-          l.codes.items c.look_for_flow_refusal.new.codes.items now_added.last long now_added.added now_added.depth (l.invariant.depths now_added.none_before);
+      flow = λ e. flow_more m procedures are l.procedure-index c.procedure-item.result b.body.procedure.now c.procedure-item.is b.ensures.procedure c.loop-procedure-test.true b.body.program.now b.ensures.program (flows e).flow (l.invariant.flow (flows e).none_before);
+      many = ap length c.in_ok-push.ensures.items ∙ length_push l.codes.items _ ∙ ap (λ n. n + 1) l.invariant.many;
+      codes_are = λ e. code_more m procedures are l.procedure-index c.procedure-item.result b.body.procedure.now c.procedure-item.is b.ensures.procedure c.loop-procedure-test.true b.body.program.now b.ensures.program
+          l.codes.items c.push.new.self.items l.placed.items c.place_code.new.placed.items _ l.invariant.many c.in_ok-push.ensures.items c.in_ok-place_code.ensures.placed (search (rules, c.len-start.ensures)) (flows e).greatest (l.invariant.codes_are (flows e).none_before);
+      indexes_are = indexes_more procedures l.indexes.items c.push-in-loop-procedure.new.self.items l.procedure-index _ b.body.procedure.now c.loop-procedure-test.true l.invariant.indexes_are
+          (c.in_ok-push-2.ensures.items ∙ ap (λ (i : List (Option ℕ)). l.indexes.items ++ i ∷ []) b.ensures.body.index) (b.ensures.procedure ∙ c.procedure-item.is);
     }
 
 pub returns-in-Some-clause-rejected : goal.returns-in-Some-clause-rejected
@@ -100,10 +95,10 @@ returns-in-None-clause-accepted c =
     let bounds = bounded m c.procedures-procedures.ensures.spelled in
     let none : fixed_refusals m ≡ [] = none_left m l.number l.procedure-index c.procedures-procedures.result.now are c.loop-procedure-test.false l.invariant.same in
     record {
-      codes_are = all_codes m.procedures c.procedures-procedures.result.now (map (λ code. code.instructions) l.codes.items) l.procedure-index are c.loop-procedure-test.false (l.invariant.codes_are c.in-None.is);
+      many = omega (arith, l.invariant.many, c.loop-procedure-test.false, ap length are, l.auto.procedure-index-end);
       indexes_are = all_indexes m.procedures c.procedures-procedures.result.now l.indexes.items l.procedure-index are c.loop-procedure-test.false l.invariant.indexes_are;
-      depths = λ k p d there.
-          l.invariant.depths c.in-None.is k p d (omega (arith, there_inside m.procedures k p there, c.loop-procedure-test.false, ap length are)) (ap (λ (all : List ProcedureContents). slice_get all k) are ∙ there);
+      codes_are = λ k p d there.
+          l.invariant.codes_are c.in-None.is k p d (omega (arith, there_inside m.procedures k p there, c.loop-procedure-test.false, ap length are)) (ap (λ (all : List ProcedureContents). slice_get all k) are ∙ there);
       verified = is_verified m bounds (all_flow m none (λ k p below there.
           l.invariant.flow c.in-None.is k p (omega (arith, below, c.loop-procedure-test.false, ap length are)) (ap (λ (all : List ProcedureContents). slice_get all k) are ∙ there)));
     }

@@ -1,4 +1,4 @@
-use Rattle.std.proofs.Common.{rules, ◌≡◌, ◌≢◌, ◌+◌, ◌<◌, ℕ, List, ◌∷◌, [], ◌++◌, length, drop, max, set, arith, refl, sym, ap, subst, ◌∙◌}
+use Rattle.std.proofs.Common.{rules, ◌≡◌, ◌≢◌, ◌+◌, ◌<◌, ℕ, List, ◌∷◌, [], ◌++◌, length, drop, set, arith, refl, sym, ap, subst, ◌∙◌}
 use Rattle.common.specs.declared.base_type.BaseType.{BaseType}
 use Rattle.verifier.specs.Operands.{booleans_of, ints_of, list_of, noted, spelled, IsShared}
 use Rattle.verifier.specs.declared.operands.Node.{Node}
@@ -16,19 +16,18 @@ invariant_of-self-2 c =
     let view = c.self.view_is in
     let lists : List (List BaseType) = spelled [] nodes in
     let there : c.args.list < length lists = subst (λ l. c.args.list < length l) (sym view) c.requires.there in
-    let here = node_at lists nodes (ints_of nodes) (booleans_of nodes) c.self.inside.deepest c.self.invariant c.args.list node there c.index-node.ensures in
+    let here = node_at lists nodes (ints_of nodes) (booleans_of nodes) c.self.invariant c.args.list node there c.index-node.ensures in
     let inside : c.args.list < length nodes = omega (arith, there, c.self.invariant.long) in
     let made : spelled [] (set (nodes ++ more ∷ []) c.args.list (noted c.args.kind c.len-above.result node)) ≡ lists ++ (c.args.kind ∷ list_of lists c.args.list) ∷ [] = pushed lists nodes c.args.kind c.args.list c.len-above.result node more refl c.index-node.ensures inside c.top_of.ensures refl in
-    let shared = shared_longer lists nodes c.self.inside.deepest c.args.list c.len-above.result c.args.kind node more c.self.invariant there
+    let shared = shared_longer lists nodes c.args.list c.len-above.result c.args.kind node more c.self.invariant there
     (subst (λ l. (k : ℕ) → k < length l → list_of l k ≢ c.args.kind ∷ list_of l c.args.list) (sym view) c.requires.fresh)
     c.index-node.ensures above_is c.top_of.ensures refl refl
     (c.bits_with-bits.ensures (list_of lists c.args.list) here.bits)
     (subst (λ l. list_of l c.skip_with-skip.result ≡ drop 63 (list_of l c.args.list)) (sym view) c.skip_with-skip.ensures.skip)
     (subst (λ l. c.skip_with-skip.result < length l) (sym view) c.skip_with-skip.ensures.there)
     refl refl in
-    subst (λ (items : List Node). IsShared (spelled [] items) items (ints_of items) (booleans_of items) c.max-self-inside.result) (sym items_are)
-    (subst (IsShared (spelled [] (set (nodes ++ more ∷ []) c.args.list (noted c.args.kind c.len-above.result node))) (set (nodes ++ more ∷ []) c.args.list (noted c.args.kind c.len-above.result node)) (ints_of (set (nodes ++ more ∷ []) c.args.list (noted c.args.kind c.len-above.result node))) (booleans_of (set (nodes ++ more ∷ []) c.args.list (noted c.args.kind c.len-above.result node)))) (sym c.max-self-inside.ensures)
-    (subst (λ l. IsShared l (set (nodes ++ more ∷ []) c.args.list (noted c.args.kind c.len-above.result node)) (ints_of (set (nodes ++ more ∷ []) c.args.list (noted c.args.kind c.len-above.result node))) (booleans_of (set (nodes ++ more ∷ []) c.args.list (noted c.args.kind c.len-above.result node))) (max c.self.inside.deepest more.depth)) (sym made) shared))
+    subst (λ (items : List Node). IsShared (spelled [] items) items (ints_of items) (booleans_of items)) (sym items_are)
+    (subst (λ l. IsShared l (set (nodes ++ more ∷ []) c.args.list (noted c.args.kind c.len-above.result node)) (ints_of (set (nodes ++ more ∷ []) c.args.list (noted c.args.kind c.len-above.result node))) (booleans_of (set (nodes ++ more ∷ []) c.args.list (noted c.args.kind c.len-above.result node)))) (sym made) shared)
 
 pub returns-clause-longer : goal.returns-clause-longer
 returns-clause-longer c =

@@ -1,4 +1,5 @@
-use Rattle.std.proofs.Common.{arith, refl, sym, ap, ◌∙◌, ◌*◌, ◌+◌, ℕ, Some, map, drop}
+use Rattle.std.proofs.Common.{arith, refl, sym, ap, ◌∙◌, ◌*◌, ◌+◌, ℕ, Some, map, drop, length}
+use Rattle.std.proofs.lemmas.List.{length-drop}
 use Rattle.verifier.specs.Flow.{all_popped}
 use Rattle.verifier.specs.Operands.{list_of}
 use Rattle.verifier.proofs.Packing.{block_popped}
@@ -11,6 +12,7 @@ loop-block-preserved c =
     let some = c.in-Some.ensures.some in
     record {
       there = c.in-Some.ensures.there;
+      fewer = omega (arith, v.fewer, ap length some.1.1, length-drop 64 (list_of c.args.self.now l.rest));
       count_is = omega (arith, v.count_is);
       same = λ kinds is.
           v.same kinds is ∙ ap (λ (n : ℕ). all_popped (map (λ kind. Some kind) (drop (n * 64) kinds)) (list_of c.args.self.now l.rest)) v.count_is

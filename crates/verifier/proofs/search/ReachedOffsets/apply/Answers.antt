@@ -1,4 +1,4 @@
-use Rattle.std.proofs.Common.{◌≡◌, ◌∷◌, [], Some, is_some, slice_get, refl, sym, ap, subst, ◌∙◌}
+use Rattle.std.proofs.Common.{◌≡◌, ◌∷◌, [], Some, arith, is_some, length, slice_get, sym, ap, subst, ◌∙◌}
 use Rattle.verifier.specs.Flow.{Leaves, effect}
 use Rattle.verifier.specs.Operands.{list_of}
 use Rattle.verifier.specs.Positions.{position_of}
@@ -40,14 +40,22 @@ reach-requires-clause-edge c =
     })
     (sym c.target.ensures ∙ c.in-Some.is)
 
+pub reach-requires-clause-deep : goal.reach-requires-clause-deep
+reach-requires-clause-deep c = omega (arith, c.in-Ok-default-None.ensures.fewer, c.requires.searching.deep c.args.listed.at _ c.requires.listed.list)
+
 pub returns-in_ok-push-in-Ok-default-Some-clause-accepted : goal.returns-in_ok-push-in-Ok-default-Some-clause-accepted
 returns-in_ok-push-in-Ok-default-Some-clause-accepted c =
     let m = c.args.body.now.program.now in
     let p = c.args.body.now.procedure.now in
     let pushed = c.in_ok-push-in-Ok-default-Some.ensures in
     let more = c.in-Ok-default-Some in
-    applied m p c.args.self.now _ c.args.listed.at c.requires.searching pushed.longer pushed.few refl refl
-    (pushed_by m p c.args.self.now (c.args.listed.at ∷ []) _ c.args.listed.at (list_of c.args.self.now.operands c.args.listed.list) _ c.args.instruction c.requires.searching c.requires.listed.list c.requires.instruction (leaves_more _ _ _ _ more.ensures.accepted more.field-0-1-is) pushed.alone)
+    applied m p c.args.self.now _ c.args.listed.at c.requires.searching pushed.longer pushed.few pushed.shapes pushed.work pushed.longest.deeper
+    (pushed_by m p c.args.self.now _ (c.args.listed.at ∷ []) c.args.listed.at (list_of c.args.self.now.operands c.args.listed.list) _ c.args.instruction c.requires.searching c.requires.listed.list c.requires.instruction (leaves_more _ _ _ _ more.ensures.accepted more.field-0-1-is) pushed.longer pushed.longest)
+
+pub returns-in_ok-push-in-Ok-default-Some-clause-deep : goal.returns-in_ok-push-in-Ok-default-Some-clause-deep
+returns-in_ok-push-in-Ok-default-Some-clause-deep c =
+    let pushed = c.in_ok-push-in-Ok-default-Some.ensures in
+    omega (arith, ap length pushed.made, pushed.longest.least)
 
 pub returns-in_ok-push-in-Ok-default-Some-clause-effect : goal.returns-in_ok-push-in-Ok-default-Some-clause-effect
 returns-in_ok-push-in-Ok-default-Some-clause-effect c =
@@ -57,6 +65,6 @@ returns-in_ok-push-in-Ok-default-Some-clause-effect c =
     let more = c.in-Ok-default-Some in
     let left = leaves_more more.field-0-1 (effect m p c.args.instruction (list_of c.args.self.now.operands c.args.listed.list)) (list_of c.args.self.now.operands more.rest) more.kind more.ensures.accepted more.field-0-1-is in
     effect_of m p c.args.self.now _ c.args.listed.at (list_of c.args.self.now.operands c.args.listed.list) _ c.args.instruction
-    (applied m p c.args.self.now _ c.args.listed.at c.requires.searching pushed.longer pushed.few refl refl
-    (pushed_by m p c.args.self.now (c.args.listed.at ∷ []) _ c.args.listed.at (list_of c.args.self.now.operands c.args.listed.list) _ c.args.instruction c.requires.searching c.requires.listed.list c.requires.instruction left pushed.alone))
+    (applied m p c.args.self.now _ c.args.listed.at c.requires.searching pushed.longer pushed.few pushed.shapes pushed.work pushed.longest.deeper
+    (pushed_by m p c.args.self.now _ (c.args.listed.at ∷ []) c.args.listed.at (list_of c.args.self.now.operands c.args.listed.list) _ c.args.instruction c.requires.searching c.requires.listed.list c.requires.instruction left pushed.longer pushed.longest))
     c.requires.listed.list c.requires.instruction (left ∙ ap Leaves (sym pushed.made))

@@ -31,7 +31,7 @@ pub returns-in-None-clause-first : goal.returns-in-None-clause-first
 returns-in-None-clause-first c =
     let l : c.args.number < length c.args.body.now.procedure.now.code = omega (arith, c.if-number-len.false, c.len.ensures, c.requires.searching.sized) in
     let within : c.args.number < length c.args.self.now.shapes = omega (arith, l, c.requires.searching.sized) in
-    λ _. flowed c.args.body.now.program.now c.args.body.now.procedure.now c.args.self.now _ c.args.at c.args.to c.args.number c.args.list c.requires.searching c.requires.edge c.requires.list c.requires.place within (sym c.at.ensures ∙ c.in-None.is) refl c.set.ensures refl
+    λ _. flowed c.args.body.now.program.now c.args.body.now.procedure.now c.args.self.now _ c.args.at c.args.to c.args.number c.args.list c.requires.searching c.requires.edge c.requires.list c.requires.place within (sym c.at.ensures ∙ c.in-None.is) c.requires.deep refl refl refl c.set.ensures refl
 
 pub returns-in-Ok-clause-other : goal.returns-in-Ok-clause-other
 returns-in-Ok-clause-other c =

@@ -1,4 +1,4 @@
-use Rattle.std.proofs.Common.{Some, sym, ap, subst, ◌∙◌}
+use Rattle.std.proofs.Common.{Some, arith, length, sym, ap, subst, ◌∙◌}
 use Rattle.verifier.specs.Search.{IsAtEdge}
 use Rattle.verifier.proofs.Reaching.{edge_caught, steps_more, waiting_less, waiting_same, all_entered}
 use Rattle.verifier.proofs.search.ReachedOffsets.enter_all.Goals as goal
@@ -10,6 +10,9 @@ reach-requires-clause-edge c =
     let t = c.requires.there in
     subst (IsAtEdge c.args.body.now.program.now c.args.body.now.procedure.now c.loop-handler.self c.args.at h.target) (sym v.steps.searching.root.1)
     (edge_caught c.args.body.now.program.now c.args.body.now.procedure.now c.loop-handler.self c.args.at t.kinds t.instruction h (v.steps.keeps c.args.at t.kinds t.has) t.there (v.waiting.real h c.in-Some.ensures.waited) c.in-Some.ensures.start c.in-Some.ensures.end)
+
+pub reach-requires-clause-deep : goal.reach-requires-clause-deep
+reach-requires-clause-deep c = omega (arith, ap length c.loop-handler.invariant.steps.searching.root.1)
 
 pub number_at-requires-clause-boundary : goal.number_at-requires-clause-boundary
 number_at-requires-clause-boundary c = c.requires.boundaries.caught c.in-Some.handler (c.loop-handler.invariant.waiting.real c.in-Some.handler c.in-Some.ensures.waited)

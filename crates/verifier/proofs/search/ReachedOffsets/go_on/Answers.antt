@@ -42,10 +42,10 @@ returns-then-branch-clause-next c =
     let f = c.in_ok-arrive.ensures.first c.if-branch.true in
     let g = all_followed c.args.body.now.program.now c.args.body.now.procedure.now c.args.self.now (waiting c.arrive.new.self next) c.args.at c.args.instruction (list_of c.args.self.now.operands c.args.list) c.requires.effect c.requires.jumps c.requires.caught f.keeps
     (λ goes. ap (λ w. table c.args.body.now.procedure.now c.arrive.new.self (c.args.at + w)) (sym c.width.ensures) ∙ f.arrives) f.searching in (
-      taken c.args.body.now.program.now c.args.body.now.procedure.now (waiting c.arrive.new.self next) c.arrive.new.self next g refl refl refl,
+      taken c.args.body.now.program.now c.args.body.now.procedure.now (waiting c.arrive.new.self next) c.arrive.new.self next g refl refl refl refl refl,
       (
-        taken_instruction c.args.body.now.program.now c.args.body.now.procedure.now (waiting c.arrive.new.self next) c.arrive.new.self next g refl refl refl,
-        taken_listed c.args.body.now.program.now c.args.body.now.procedure.now (waiting c.arrive.new.self next) c.arrive.new.self next g refl refl refl,
+        taken_instruction c.args.body.now.program.now c.args.body.now.procedure.now (waiting c.arrive.new.self next) c.arrive.new.self next g refl refl refl refl refl,
+        taken_listed c.args.body.now.program.now c.args.body.now.procedure.now (waiting c.arrive.new.self next) c.arrive.new.self next g refl refl refl refl refl,
       ),
     )
 

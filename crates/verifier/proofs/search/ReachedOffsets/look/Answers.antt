@@ -15,11 +15,11 @@ read code found number at i d same there is =
     ∙ ap (λ l. Some (get_or l number d)) (sym same)
 
 pub bounds-code-listed : goal.bounds-code-listed
-bounds-code-listed c =
+bounds-code-listed g c =
     let r = c.requires in
     omega (arith, number_inside c.args.body.now.procedure.now.code c.args.listed.number c.args.listed.at r.there.instruction r.listed.number r.there.there, ap length c.requires.code)
 
 pub visit-requires-clause-instruction : goal.visit-requires-clause-instruction
-visit-requires-clause-instruction c =
+visit-requires-clause-instruction g c =
     let r = c.requires in
     read c.args.body.now.procedure.now.code c.args.code.now c.args.listed.number c.args.listed.at r.there.instruction _ c.requires.code r.listed.number r.there.there

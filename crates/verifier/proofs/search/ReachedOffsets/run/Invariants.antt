@@ -4,7 +4,7 @@ use Rattle.verifier.specs.Search.{IsSearchingNext, IsWaiting, count, left}
 use Rattle.verifier.proofs.search.ReachedOffsets.run.Given as goal
 
 abbrev pub invariant-loop-next : goal.invariant-loop-next
-invariant-loop-next l = record {
+invariant-loop-next g l = record {
   next : IsSearchingNext l.body.program.now l.body.procedure.now l.self l.next;
   last : IfNone l.next (l.self.work ≡ []);
   waiting : IsWaiting l.body.procedure.now l.coverage l.self;
@@ -12,4 +12,4 @@ invariant-loop-next l = record {
 }
 
 abbrev pub decreases-loop-next : goal.decreases-loop-next
-decreases-loop-next l = left l.self + count l.next
+decreases-loop-next g l = left l.self + count l.next

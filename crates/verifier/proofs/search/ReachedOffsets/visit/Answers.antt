@@ -1,11 +1,11 @@
-use Rattle.std.proofs.Common.{Some, ap, sym, ◌∙◌, arith}
+use Rattle.std.proofs.Common.{Some, ap, length, sym, ◌∙◌, arith}
 use Rattle.verifier.specs.Flow.{Leaves}
 use Rattle.verifier.specs.Operands.{list_of}
 use Rattle.verifier.proofs.Reaching.{waiting_kept}
 use Rattle.verifier.proofs.search.ReachedOffsets.visit.Goals as goal
 
-pub raise-requires : goal.raise-requires
-raise-requires c =
+pub raise-requires-clause-raising : goal.raise-requires-clause-raising
+raise-requires-clause-raising g c =
     let e = c.in_ok-after.ensures.effect in
     let applied = c.in_ok-after.ensures.accepted in
     record {
@@ -18,7 +18,7 @@ raise-requires c =
     }
 
 pub go_on-requires-clause-effect : goal.go_on-requires-clause-effect
-go_on-requires-clause-effect c =
+go_on-requires-clause-effect g c =
     let e = c.in_ok-after.ensures.effect in
     let steps = c.in_ok-raise.ensures.accepted.steps in
     record {
@@ -28,10 +28,15 @@ go_on-requires-clause-effect c =
       effect = e.effect ∙ ap Leaves (ap (λ ls. list_of ls c.in_ok-after.after) (sym steps.same));
     }
 
+pub go_on-requires-clause-deep : goal.go_on-requires-clause-deep
+go_on-requires-clause-deep g c =
+    let steps = c.in_ok-raise.ensures.accepted.steps in
+    omega (arith, c.in_ok-after.ensures.deep, ap length (ap (λ ls. list_of ls c.in_ok-after.after) steps.same), steps.deepest)
+
 pub go_on-requires-clause-jumps : goal.go_on-requires-clause-jumps
-go_on-requires-clause-jumps c =
+go_on-requires-clause-jumps g c =
     let steps = c.in_ok-raise.ensures.accepted.steps in
     λ to e. steps.keeps to _ (c.in_ok-after.ensures.jumps to e) ∙ ap Some (ap (λ ls. list_of ls c.in_ok-after.after) (sym steps.same))
 
 pub returns-clause-waiting : goal.returns-clause-waiting
-returns-clause-waiting c = waiting_kept c.args.body.now.procedure.now c.raise.new.coverage c.raise.new.self c.go_on.new.self c.in_ok-next.ensures.keeps c.in_ok-raise.ensures.accepted.waiting
+returns-clause-waiting g c = waiting_kept c.args.body.now.procedure.now c.raise.new.coverage c.raise.new.self c.go_on.new.self c.in_ok-next.ensures.keeps c.in_ok-raise.ensures.accepted.waiting
