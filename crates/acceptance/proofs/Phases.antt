@@ -22,9 +22,8 @@ use Rattle.principals.specs.Laws.{HasOneHierarchy, IsReadOrRefused, IsNotReadAnd
 use Rattle.syntax.specs.Grammar.{SpellsProgram}
 use Rattle.syntax.specs.Tree.{ProgramTree}
 use Rattle.resolved.specs.Program.{Program}
-use Rattle.resolved.specs.ExitFaults.{exit_faults}
 use Rattle.resolved.specs.declared.fault.ExitRefusalKind.{ExitRefusalKind}
-use Rattle.resolved.specs.Labelled.{Demand, Labelled}
+use Rattle.resolved.specs.Labelled.{Demand, Labelled, exit_faults}
 use Rattle.resolved.proofs.Flow.{labelled-or_refused}
 use Rattle.types.specs.Finding.{Finding}
 use Rattle.types.specs.declared.fault.TypeRefusalKind.{TypeRefusalKind}

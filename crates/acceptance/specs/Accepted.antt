@@ -10,8 +10,7 @@ use Rattle.principals.specs.HierarchyText.{IsHierarchyOf}
 use Rattle.syntax.specs.Grammar.{SpellsProgram}
 use Rattle.syntax.specs.Tree.{ProgramTree}
 use Rattle.resolved.specs.Program.{Program}
-use Rattle.resolved.specs.ExitFaults.{exit_faults}
-use Rattle.resolved.specs.Labelled.{Labelled}
+use Rattle.resolved.specs.Labelled.{Labelled, exit_faults}
 use Rattle.types.specs.Resolution.{resolution}
 use Rattle.common.specs.declared.limits.TheConstants.{MAX_TEXT}
 

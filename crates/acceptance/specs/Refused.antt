@@ -18,9 +18,8 @@ use Rattle.lattices.specs.Constraints.{FitsAll, FitsUnknowns}
 use Rattle.labels.specs.Label.{Label}
 use Rattle.labels.specs.LabelLattice.{label_lattice}
 use Rattle.resolved.specs.Program.{Program}
-use Rattle.resolved.specs.ExitFaults.{exit_faults}
 use Rattle.resolved.specs.declared.fault.ExitRefusalKind.{ExitRefusalKind}
-use Rattle.resolved.specs.Labelled.{Unwritten, Demand, program_demands}
+use Rattle.resolved.specs.Labelled.{Unwritten, Demand, program_demands, exit_faults}
 use Rattle.types.specs.Resolution.{resolution}
 use Rattle.types.specs.declared.fault.TypeRefusalKind.{TypeRefusalKind}
 use Rattle.acceptance.specs.Accepted.{IsText, IsTreeOf, IsResolvedFrom, HasHierarchy}

@@ -1,14 +1,14 @@
 -- What is spelled so is read, whatever follows.
 use Rattle.std.proofs.Common.{◌≡◌, ℕ, zero, suc, ◌+◌, ◌-◌, ◌≤◌, Bool, true, cond, ltb, eqb, List, [], ◌∷◌, ◌++◌, length, Option, None, Ok, Err, refl, sym, ap, ◌∙◌, append_assoc, arith, length-append}
 use Rattle.std.specs.Int.{w32, to_be_bytes}
-use Rattle.std.specs.List.{AllByRecursion}
+use Rattle.std.specs.List.{AllByRecursion, position_or_len}
 use Rattle.std.proofs.lemmas.Bool.{lt-ltb, eq-eqb}
 use Rattle.std.proofs.lemmas.List.{append-nil}
 use Rattle.modules.specs.declared.fault.FormatRefusalKind.TheVariants.{BadValue}
 use Rattle.modules.specs.Opcodes.{Coding, code_bytes, instructions}
 use Rattle.modules.specs.declared.instruction.Instruction.{Instruction}
 use Rattle.modules.specs.declared.version.Version.{Version}
-use Rattle.modules.specs.ByteFormat.{number_at, stop_at, ByteFormat, Byte, Number, Text, Nothing, Marked, Checked, Then, Counted, Code, Named, spelled_each, spelled_instruction, spelled_code, spelled, FitEach, IsCoded, Fits, ◌>>=◌, Read, bytes_at, each_at, meant, operand_at, instruction_in, code_at, read}
+use Rattle.modules.specs.ByteFormat.{number_at, stop_at, ByteFormat, OneOf, Number, Text, Nothing, Marked, Checked, Then, Counted, Code, Named, spelled_each, spelled_instruction, spelled_code, spelled, FitEach, IsCoded, Fits, ◌>>=◌, Read, bytes_at, each_at, meant, operand_at, instruction_in, code_at, read}
 use Rattle.modules.proofs.Spelling.{all_coded, code-bytes}
 use Rattle.bytecode.proofs.Steps.{bytes_again, number_again}
 use Rattle.bytecode.proofs.Coherent.{Coherent}
@@ -70,7 +70,7 @@ version_again version code rest fits =
     ∙ code_again coding (length bytes) [] code rest (all_coded version code fits.1) (omega (arith, ap length same))
 
 pub again : {A : Type 0} (form : ByteFormat A) → Coherent form → IsReadAgain form
-again Byte coherent x rest fits = refl
+again (OneOf {A} same values) coherent x rest fits = ap (λ (found : Option A). meant found (position_or_len (same x) values ∷ rest) rest) fits
 again Number coherent x rest fits = number_again x rest fits
 again Text coherent x rest fits =
     ap (λ (bytes : List ℕ). read Text bytes) (append_assoc (to_be_bytes w32 (length x)) x rest)

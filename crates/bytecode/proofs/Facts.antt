@@ -3,7 +3,7 @@ use Rattle.std.proofs.Common.{◌≡◌, ◌≢◌, ℕ, ◌+◌, ◌-◌, ◌<�
 use Rattle.std.specs.Prelude.{bytes_eq, Contains, slice_get}
 use Rattle.std.specs.List.{AllByRecursion}
 use Rattle.std.specs.List.Sorted.{IsStrictlyIncreasing, IsStrictlySortedBy}
-use Rattle.std.specs.Ordering.{nat_cmp}
+use Rattle.std.specs.Ordering.{is_lt, nat_cmp}
 use Rattle.std.specs.declared.cmp.Ordering.{Ordering}
 use Rattle.std.specs.declared.cmp.Ordering.TheVariants.{Less, Equal, Greater}
 use Rattle.std.proofs.lemmas.Bool.{ltb-true, eq-eqb, cases_lt, not-true}
@@ -26,11 +26,12 @@ use Rattle.labels.proofs.Ascending.{sorted_nil}
 use Rattle.labels.specs.Label.{Label}
 use Rattle.labels.specs.Canonical.{policy_cmp, IsCanonicalPolicy}
 use Rattle.labels.specs.PolicyOrder.{policy_cmp-total}
-use Rattle.modules.specs.ByteFormat.{Fits, FitEach, Counted, read}
+use Rattle.modules.specs.ByteFormat.{Fits, FitEach, Counted, Named, Then, read}
 use Rattle.bytecode.proofs.Steps.{IsBytes}
 use Rattle.bytecode.proofs.Taken.{taken}
 use Rattle.bytecode.proofs.Lawful.{number_below-coherent, principals-coherent, pair_after-coherent}
-use Rattle.modules.specs.Format.{any, hierarchy, is_less, is_above, is_among, name_after, number_below, principals, pair_after, reader_after, policy_after, label}
+use Rattle.modules.specs.Format.{any, hierarchy, is_above, is_among, name_after, number_below, policy, label}
+use Rattle.modules.specs.FormatParts.{principals, pair_after, reader_after, policy_after}
 
 -- ---- along a list, each element after those before it
 
@@ -50,7 +51,7 @@ neither : (a b : Bool) → (a || b) ≡ false → b ≡ false
 neither true b h = absurd cc
 neither false b h = h
 
-less : (o : Ordering) → is_less o ≡ true → o ≡ Less
+less : (o : Ordering) → is_lt o ≡ true → o ≡ Less
 less Less h = refl
 less Equal h = absurd cc
 less Greater h = absurd cc
@@ -64,7 +65,7 @@ Ascends {A} cmp xs = (k : ℕ) (d : A) → k + 1 < length xs → cmp (get_or xs 
 above_last : {A : Type 0} (cmp : A → A → Ordering) (before : List A) (x d : A) (k : ℕ) → is_above cmp before x ≡ true → k + 1 ≡ length before → cmp (get_or before k d) x ≡ Less
 above_last {A} cmp before x d k h last =
     let here : slice_get before (length before - 1) ≡ Some (get_or before k d) = ap (slice_get before) (omega (arith, last)) ∙ slice_get-get_or before k d (omega (arith, last)) in
-    less _ (ap (λ (o : Option A). option_map_or (λ y. is_less (cmp y x)) o true) (sym here) ∙ h)
+    less _ (ap (λ (o : Option A). option_map_or (λ y. is_lt (cmp y x)) o true) (sym here) ∙ h)
 
 ascends_more : {A : Type 0} (cmp : A → A → Ordering) (before : List A) (x : A) → Ascends cmp before → is_above cmp before x ≡ true → Ascends cmp (before ++ x ∷ [])
 ascends_more cmp before x so_far h k d lt =
@@ -115,18 +116,18 @@ pairs-there count pairs h =
 pub readers-ascend : (count owner : ℕ) (readers : List ℕ) → FitEach (λ before x. Fits (reader_after count owner before) x) [] readers → IsStrictlyIncreasing readers
 unfolding reader_after
 readers-ascend count owner readers h =
-    let ascends = along _ (Ascends nat_cmp) (λ before x so_far fits. ascends_more nat_cmp before x so_far (second _ _ fits.1)) [] readers (λ k d inside. absurd (omega arith)) h in
+    let ascends = along _ (Ascends nat_cmp) (λ before x so_far fits. ascends_more nat_cmp before x so_far fits.1) [] readers (λ k d inside. absurd (omega arith)) h in
     IsStrictlyIncreasing-from_sorted readers (sorted_from_all_adjacent nat_cmp_total readers 0 (λ k inside. ascends k 0 inside))
 
-not_owner : (x owner : ℕ) (above : Bool) → (not (eqb x owner) && above) ≡ true → x ≢ owner
-not_owner x owner above h =
-    let differs : eqb x owner ≡ false = not-true (eqb x owner) (first (not (eqb x owner)) above h) in
+not_owner : (x owner : ℕ) → not (eqb x owner) ≡ true → x ≢ owner
+not_owner x owner h =
+    let differs : eqb x owner ≡ false = not-true (eqb x owner) h in
     λ same. cc (eq-eqb x owner same, differs)
 
 pub owner-left_out : (count owner : ℕ) (readers : List ℕ) → FitEach (λ before x. Fits (reader_after count owner before) x) [] readers → All (λ reader. reader ≢ owner) readers
 unfolding reader_after
 owner-left_out count owner readers h =
-    along _ (λ (xs : List ℕ). All (λ reader. reader ≢ owner) xs) (λ before x others fits. All-push (λ (reader : ℕ). reader ≢ owner) before x others (not_owner x owner (is_above nat_cmp before x) fits.1)) [] readers (λ k d inside. absurd (omega arith)) h
+    along _ (λ (xs : List ℕ). All (λ reader. reader ≢ owner) xs) (λ before x others fits. All-push (λ (reader : ℕ). reader ≢ owner) before x others (not_owner x owner fits.0.1)) [] readers (λ k d inside. absurd (omega arith)) h
 
 pub no_owner : (owner : ℕ) (readers : List ℕ) → All (λ reader. reader ≢ owner) readers → ¬ Contains readers owner
 no_owner owner readers h found = h found.0 owner found.1 found.2
@@ -139,7 +140,7 @@ policies-ascend count (p ∷ policies) h =
     sorted_from_all_adjacent policy_cmp-total (p ∷ policies) p (λ k inside. ascends k p inside)
 
 pub policies-canonical : (count : ℕ) (policies : Label) → Fits (label count) policies → All IsCanonicalPolicy policies
-unfolding label policy_after
+unfolding label policy policy_after reader_after
 policies-canonical count policies h =
     along _ (λ (xs : Label). All IsCanonicalPolicy xs) (λ before x canonical fits. All-push IsCanonicalPolicy before x canonical (record {
       readers_ascend = readers-ascend count x.owner x.readers fits.0.0.1.2;
@@ -181,14 +182,16 @@ pairs-read bytes names rest pairs after fits e f =
       there = pairs-there (length names) pairs u.fits.2;
     }
 
+hierarchy-is : hierarchy ≡ Named (λ fields. record { names = fields.0; pairs = fields.1 }) (λ h. (h.names, h.pairs)) (Then principals (λ names. Counted any (pair_after (length names))))
+unfolding hierarchy principals pair_after
+hierarchy-is = refl
+
 pub hierarchy-read : (bytes : List ℕ) (names : List (List ℕ)) (rest : List ℕ) (pairs : List (ℕ × ℕ)) (after : List ℕ) (h : PrincipalHierarchy) → read principals bytes ≡ Ok (names, rest) → read (Counted any (pair_after (length names))) rest ≡ Ok (pairs, after)
     → h.names ≡ names → h.pairs ≡ pairs → read hierarchy bytes ≡ Ok (h, after)
-unfolding hierarchy
 hierarchy-read bytes names rest pairs after h e f n p =
-    let made : read hierarchy bytes ≡ Ok (record { names = names; pairs = pairs }, after) = rw (e, f) refl in
+    let made : read hierarchy bytes ≡ Ok (record { names = names; pairs = pairs }, after) = rw (hierarchy-is, e, f) refl in
     made ∙ (λ i. Ok (record { names = sym n i; pairs = sym p i }, after))
 
 pub hierarchy-fails : (e : OrNoMemory ReadRefusal) (bytes : List ℕ) (names : List (List ℕ)) (rest : List ℕ) → read principals bytes ≡ Ok (names, rest) → ReadingFails e (read (Counted any (pair_after (length names))) rest) → ReadingFails e (read hierarchy bytes)
-unfolding hierarchy
 hierarchy-fails NoMemory bytes names rest e f = tt
-hierarchy-fails (Refused stop) bytes names rest e f = rw (e, f) refl
+hierarchy-fails (Refused stop) bytes names rest e f = rw (hierarchy-is, e, f) refl

@@ -2,10 +2,11 @@
 use Rattle.std.proofs.Common.{◌≡◌, ℕ, zero, suc, ◌-◌, ◌≤◌, Bool, true, false, cond, ltb, eqb, List, [], ◌∷◌, ◌++◌, length, drop, take, Option, Some, None, Result, Ok, Err, subst, arith}
 use Rattle.std.proofs.lemmas.List.{length-drop}
 use Rattle.std.specs.Int.{w32, from_be_bytes}
+use Rattle.std.specs.List.{slice_get}
 use Rattle.modules.specs.declared.fault.ReadRefusal.{ReadRefusal}
 use Rattle.modules.specs.declared.fault.FormatRefusalKind.TheVariants.{BadValue, Trailing}
 use Rattle.modules.specs.Opcodes.{Coding, instructions}
-use Rattle.modules.specs.ByteFormat.{ByteFormat, Byte, Number, Text, Nothing, Marked, Checked, Then, Counted, Code, Named, stop_at, short, ◌>>=◌, Read, number_at, bytes_at, each_at, meant, operand_at, instruction_in, code_at, spelled_instruction, read, read_all}
+use Rattle.modules.specs.ByteFormat.{ByteFormat, OneOf, Number, Text, Nothing, Marked, Checked, Then, Counted, Code, Named, stop_at, short, ◌>>=◌, Read, number_at, bytes_at, each_at, meant, operand_at, instruction_in, code_at, spelled_instruction, read, read_all}
 
 -- at most this many bytes are left, after the value or at the refusal
 abbrev IsInside : {A : Type 0} → ℕ → Read A → Type 0
@@ -66,8 +67,8 @@ code_inside coding (suc most) (suc room) before bytes =
     next_at (length bytes) (instruction_in coding (suc room) bytes) (λ x. code_at coding most (suc room - length (spelled_instruction coding x.0)) (before ++ x.0 ∷ []) x.1) (instruction_inside coding (suc room) bytes) (λ x. code_inside coding most (suc room - length (spelled_instruction coding x.0)) (before ++ x.0 ∷ []) x.1)
 
 inside : {A : Type 0} (form : ByteFormat A) (bytes : List ℕ) → IsInside (length bytes) (read form bytes)
-inside Byte [] = omega arith
-inside Byte (b ∷ bytes) = omega arith
+inside (OneOf same values) [] = omega arith
+inside (OneOf same values) (b ∷ bytes) = meant_inside (slice_get values b) (b ∷ bytes) bytes (length (b ∷ bytes)) (omega arith) (omega arith)
 inside Number bytes = number_inside bytes
 inside Text bytes = next_at (length bytes) (number_at bytes) (λ size. bytes_at size.0 size.1) (number_inside bytes) (λ size. bytes_inside size.0 size.1)
 inside (Nothing a) bytes = omega arith

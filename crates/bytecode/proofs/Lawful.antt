@@ -1,7 +1,8 @@
 -- The module file is coherent: its two laws hold.
 use Rattle.std.proofs.Common.{map, ◌≡◌, ℕ, zero, suc, ◌+◌, ◌^◌, ◌<◌, Bool, true, false, ◌||◌, cond, ltb, eqb, List, [], ◌∷◌, length, Option, Some, None, refl, sym, ap, subst, ◌∙◌, arith, inl, inr, ◌⊎◌, lit<}
 use Rattle.std.specs.Int.{w32, cast_signed, cast_unsigned, from_be_bytes, to_be_bytes}
-use Rattle.std.specs.List.{AllByRecursion}
+use Rattle.std.specs.List.{AllByRecursion, position_or_len, slice_get}
+use Rattle.std.specs.Option.{option_eq}
 use Rattle.std.proofs.lemmas.Bool.{ltb-true, eqb-true}
 use Rattle.std.proofs.lemmas.Int.{of_z-to_z}
 use Rattle.std.proofs.lemmas.Nat.{be_bytes_4}
@@ -12,16 +13,20 @@ use Rattle.modules.specs.declared.version.Version.{Version}
 use Rattle.modules.specs.declared.version.Version.TheVariants.{One, Two}
 use Rattle.common.specs.declared.base_type.BaseType.{BaseType}
 use Rattle.common.specs.declared.base_type.BaseType.TheVariants as kind
+use Rattle.common.specs.contracts.base_type.BaseTypePartialEq.TheImpl.{eq-value as same_kind}
+use Rattle.common.specs.declared.direction.Direction.{Direction}
+use Rattle.common.specs.declared.direction.Direction.TheVariants.{Input, Output}
+use Rattle.common.specs.contracts.direction.DirectionPartialEq.TheImpl.{eq-value as same_direction}
+use Rattle.modules.specs.declared.declaration.Slot.{Slot}
 use Rattle.modules.specs.declared.declaration.Slot.TheVariants as slot
-use Rattle.modules.specs.declared.declaration.Global.TheVariants as global
-use Rattle.modules.specs.declared.fault.FormatRefusalKind.TheVariants.{BadValue}
 use Rattle.modules.specs.Contents.{ProcedureContents}
 use Rattle.modules.specs.Code.{width_of}
-use Rattle.modules.specs.ByteFormat.{ByteFormat, Number, Checked, Fits}
+use Rattle.modules.specs.ByteFormat.{Fits}
 use Rattle.modules.specs.declared.opcode.Operand.{Operand}
 use Rattle.modules.specs.declared.opcode.Operand.TheVariants.{Absent, Int, Boolean, Number as Numbered}
 use Rattle.modules.specs.Opcodes.{entry_of, opcode_of, operand_of, operand_width, numbered, operators, plain, with_opcode, instruction_of, examples, has_instruction, width_in, width_after, instructions}
-use Rattle.modules.specs.Format.{name_after, number_below, principals, pair_after, hierarchy, exceptions, direction_of, direction_byte, direction, reader_after, policy_after, label, channel_after, channels, kind_of, kind_byte, variable_kind, of_scalar, first_value, global_of, global_fields, global_after, globals, slot_fields, slot_after, slots, returned_of, returned_byte, returned, handler, handlers, procedure, procedures, main, declared, program, contents, version_number, version, module_file}
+use Rattle.modules.specs.Format.{name_after, number_below, hierarchy, direction, policy, label, channel_after, variable_kind, slot_beside, first_value, global_of, global_fields, global_after, slot_fields, slots, returned, handler, procedure, main, declared, version_number, version, module_file}
+use Rattle.modules.specs.FormatParts.{principals, pair_after, exceptions, channels, globals, procedures, program, contents}
 use Rattle.modules.proofs.Spelling.{found-has}
 use Rattle.bytecode.proofs.Steps.{IsBytes}
 use Rattle.bytecode.proofs.Coherent.{IsLawful, Coherent}
@@ -130,11 +135,25 @@ byte_back zero e = inl refl
 byte_back (suc zero) e = inr refl
 byte_back (suc (suc n)) e = absurd (omega (arith, ltb-true _ _ e))
 
-direction-back : (n : ℕ) → ltb n 2 ≡ true → direction_byte (direction_of n) ≡ n
-direction-back n e = elim (byte_back n e) [ inl h ↦ rw h refl | inr h ↦ rw h refl ]
+-- a byte that numbers one of a list is the number of that one's place
+direction-numbered : (number : ℕ) (x : Direction) → slice_get (Input ∷ Output ∷ []) number ≡ Some x → position_or_len (same_direction.it x) (Input ∷ Output ∷ []) ≡ number
+direction-numbered zero x e = let same : Input ≡ x = cc in subst (λ (d : Direction). position_or_len (same_direction.it d) (Input ∷ Output ∷ []) ≡ 0) same refl
+direction-numbered (suc zero) x e = let same : Output ≡ x = cc in subst (λ (d : Direction). position_or_len (same_direction.it d) (Input ∷ Output ∷ []) ≡ 1) same refl
+direction-numbered (suc (suc n)) x e = absurd cc
 
-kind-back : (n : ℕ) → ltb n 2 ≡ true → kind_byte (kind_of n) ≡ n
-kind-back n e = elim (byte_back n e) [ inl h ↦ rw h refl | inr h ↦ rw h refl ]
+kind-numbered : (number : ℕ) (x : BaseType) → slice_get (kind.Int ∷ kind.Boolean ∷ []) number ≡ Some x → position_or_len (same_kind.it x) (kind.Int ∷ kind.Boolean ∷ []) ≡ number
+kind-numbered zero x e = let same : kind.Int ≡ x = cc in subst (λ (k : BaseType). position_or_len (same_kind.it k) (kind.Int ∷ kind.Boolean ∷ []) ≡ 0) same refl
+kind-numbered (suc zero) x e = let same : kind.Boolean ≡ x = cc in subst (λ (k : BaseType). position_or_len (same_kind.it k) (kind.Int ∷ kind.Boolean ∷ []) ≡ 1) same refl
+kind-numbered (suc (suc n)) x e = absurd cc
+
+abbrev results : List (Option BaseType)
+results = None ∷ Some kind.Int ∷ Some kind.Boolean ∷ []
+
+result-numbered : (number : ℕ) (x : Option BaseType) → slice_get results number ≡ Some x → position_or_len (option_eq same_kind.it x) results ≡ number
+result-numbered zero x e = let same : None ≡ x = cc in subst (λ (r : Option BaseType). position_or_len (option_eq same_kind.it r) results ≡ 0) same refl
+result-numbered (suc zero) x e = let same : Some kind.Int ≡ x = cc in subst (λ (r : Option BaseType). position_or_len (option_eq same_kind.it r) results ≡ 1) same refl
+result-numbered (suc (suc zero)) x e = let same : Some kind.Boolean ≡ x = cc in subst (λ (r : Option BaseType). position_or_len (option_eq same_kind.it r) results ≡ 2) same refl
+result-numbered (suc (suc (suc n))) x e = absurd cc
 
 pub name_after-coherent : (taken : List ℕ → Bool) (before : List (List ℕ)) → Coherent (name_after taken before)
 unfolding name_after
@@ -153,7 +172,7 @@ unfolding pair_after
 pair_after-coherent count before = (number_below-coherent count, λ _. number_below-coherent count)
 
 pub hierarchy-coherent : Coherent hierarchy
-unfolding hierarchy
+unfolding hierarchy principals pair_after
 hierarchy-coherent = ((principals-coherent, λ names before. pair_after-coherent (length names) before), λ fields fits. refl)
 
 pub exceptions-coherent : Coherent exceptions
@@ -161,46 +180,28 @@ unfolding exceptions
 exceptions-coherent = name_after-coherent _
 
 pub label-coherent : (count : ℕ) → Coherent (label count)
-unfolding label policy_after reader_after
+unfolding label policy
 label-coherent count = λ before. ((number_below-coherent count, λ owner readers. number_below-coherent count), λ fields fits. refl)
 
 pub channels-coherent : (count : ℕ) (declared : List (List ℕ)) → Coherent (channels count declared)
 unfolding channels channel_after direction
-channels-coherent count declared = λ before. (((tt, λ byte fits. direction-back byte fits.1), λ _. (name_after-coherent _ _, λ _. label-coherent count)), λ fields fits. refl)
+channels-coherent count declared = λ before. ((direction-numbered, λ _. (name_after-coherent _ _, λ _. label-coherent count)), λ fields fits. refl)
 
-of_scalar-coherent : (b : Bool) (form : ByteFormat ℕ) → Coherent form → Coherent (of_scalar b form)
-of_scalar-coherent true form h = h
-of_scalar-coherent false form h = tt
-
-first_value-coherent : (kind : BaseType) (size : ℕ) → Coherent (first_value kind size)
-first_value-coherent kind.Int size = of_scalar-coherent (eqb size 0) _ tt
-first_value-coherent kind.Boolean size = of_scalar-coherent (eqb size 0) _ tt
-
-abbrev global_fields_are : BaseType → ℕ → ℕ → BaseType × (ℕ × ℕ)
-global_fields_are kind size first = (kind, (size, first))
-
-int_back : (size first : ℕ) (b : Bool) → eqb size 0 ≡ b → Fits (of_scalar b Number) first → global_fields (cond b (global.Int (cast_signed w32 first)) (global.Array kind.Int size)) ≡ (kind.Int, (size, first))
-int_back size first true h fits =
-    let made = λ (s f : ℕ). global_fields_are kind.Int s f in
-    ap (made 0) (of_z-to_z w32 first fits) ∙ ap (λ (s : ℕ). made s first) (sym (eqb-true size 0 h))
-int_back size first false h fits = ap (global_fields_are kind.Int size) (sym fits)
+first_value-coherent : (declared : Slot) → Coherent (first_value declared)
+first_value-coherent (slot.Scalar kind.Int) = tt
+first_value-coherent (slot.Scalar kind.Boolean) = tt
+first_value-coherent (slot.Array kind size) = tt
 
 boolean-back : (n : ℕ) → ltb n 2 ≡ true → cond (eqb n 1) 1 0 ≡ n
 boolean-back n e = elim (byte_back n e) [ inl h ↦ rw h refl | inr h ↦ rw h refl ]
 
-boolean_back : (size first : ℕ) (b : Bool) → eqb size 0 ≡ b → Fits (of_scalar b (Checked BadValue (λ n. ltb n 2) Number)) first → global_fields (cond b (global.Boolean (eqb first 1)) (global.Array kind.Boolean size)) ≡ (kind.Boolean, (size, first))
-boolean_back size first true h fits =
-    let made = λ (s f : ℕ). global_fields_are kind.Boolean s f in
-    ap (made 0) (boolean-back first fits.1) ∙ ap (λ (s : ℕ). made s first) (sym (eqb-true size 0 h))
-boolean_back size first false h fits = ap (global_fields_are kind.Boolean size) (sym fits)
+abbrev global_fields_are : Slot → ℕ → Slot × ℕ
+global_fields_are declared first = (declared, first)
 
-global-back : (kind : BaseType) (size first : ℕ) → Fits (first_value kind size) first → global_fields (global_of (kind, (size, first))) ≡ (kind, (size, first))
-global-back kind.Int size first fits = int_back size first (eqb size 0) refl fits
-global-back kind.Boolean size first fits = boolean_back size first (eqb size 0) refl fits
-
-pub globals-coherent : Coherent globals
-unfolding globals global_after variable_kind
-globals-coherent = λ before. (((tt, λ byte fits. kind-back byte fits.1), λ kind. (tt, λ size. first_value-coherent kind size)), λ fields fits. global-back fields.0 fields.1.0 fields.1.1 fits.1.1)
+global-back : (declared : Slot) (first : ℕ) → Fits (first_value declared) first → global_fields (global_of (declared, first)) ≡ (declared, first)
+global-back (slot.Scalar kind.Int) first fits = ap (global_fields_are (slot.Scalar kind.Int)) (of_z-to_z w32 first fits)
+global-back (slot.Scalar kind.Boolean) first fits = ap (global_fields_are (slot.Scalar kind.Boolean)) (boolean-back first fits.1)
+global-back (slot.Array kind size) first fits = ap (global_fields_are (slot.Array kind size)) (sym fits)
 
 abbrev slot_fields_are : BaseType → ℕ → BaseType × ℕ
 slot_fields_are kind size = (kind, size)
@@ -209,26 +210,28 @@ slot-back : (kind : BaseType) (size : ℕ) (b : Bool) → eqb size 0 ≡ b → s
 slot-back kind size true h = ap (slot_fields_are kind) (sym (eqb-true size 0 h))
 slot-back kind size false h = refl
 
-pub slots-coherent : (count : ℕ) → Coherent (slots count)
-unfolding slots slot_after variable_kind
-slots-coherent count = λ before. (((tt, λ byte fits. kind-back byte fits.1), λ kind. tt), λ fields fits. slot-back fields.0 fields.1 (eqb fields.1 0) refl)
+slot_beside-coherent : (cells : ℕ) (test : ℕ → Bool) → Coherent (slot_beside cells test)
+unfolding slot_beside variable_kind
+slot_beside-coherent cells test = ((kind-numbered, λ kind. tt), λ fields fits. slot-back fields.0 fields.1 (eqb fields.1 0) refl)
 
-returned-back : (n : ℕ) → ltb n 3 ≡ true → returned_byte (returned_of n) ≡ n
-returned-back zero below = refl
-returned-back (suc zero) below = refl
-returned-back (suc (suc zero)) below = refl
-returned-back (suc (suc (suc n))) below = absurd (omega (arith, ltb-true _ _ below))
+pub globals-coherent : Coherent globals
+unfolding globals global_after
+globals-coherent = λ before. ((slot_beside-coherent _ _, first_value-coherent), λ fields fits. global-back fields.0 fields.1 fits.1)
+
+pub slots-coherent : (count : ℕ) → Coherent (slots count)
+unfolding slots
+slots-coherent count = λ before. slot_beside-coherent _ _
 
 pub procedures-coherent : (version : Version) → Coherent (procedures version)
-unfolding procedures procedure returned handlers handler
-procedures-coherent version = λ before. (((tt, λ byte fits. returned-back byte fits.1), λ _. (tt, λ count. (slots-coherent count, λ _. (instructions-lawful version, λ _ before. ((tt, λ _. (tt, λ _. (tt, λ _. tt))), λ fields fits. refl))))), λ fields fits. refl)
+unfolding procedures procedure returned handler
+procedures-coherent version = λ before. ((result-numbered, λ _. (tt, λ count. (slots-coherent count, λ _. (instructions-lawful version, λ _ before. ((tt, λ _. (tt, λ _. (tt, λ _. tt))), λ fields fits. refl))))), λ fields fits. refl)
 
 main-coherent : (all : List ProcedureContents) → Coherent (main all)
 unfolding main
 main-coherent all = tt
 
 pub declared-coherent : (count : ℕ) → Coherent (declared count)
-unfolding declared
+unfolding declared exceptions channels
 declared-coherent count = (exceptions-coherent, channels-coherent count)
 
 pub program-coherent : (version : Version) → Coherent (program version)
@@ -249,5 +252,5 @@ unfolding contents
 contents-coherent version = (hierarchy-coherent, λ h. (declared-coherent (length h.names), λ _. program-coherent version))
 
 pub module_file-coherent : Coherent module_file
-unfolding module_file
+unfolding module_file contents program globals procedures
 module_file-coherent = (lit< tt, ((version-coherent, contents-coherent), λ fields fits. refl))

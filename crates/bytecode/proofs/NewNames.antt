@@ -18,7 +18,8 @@ use Rattle.modules.specs.ByteFormat.{ByteFormat, Named, Then, Counted, Checked, 
 use Rattle.modules.specs.declared.fault.ReadRefusal.{ReadRefusal}
 use Rattle.bytecode.proofs.Loop.{ReadingFails, each_fails, each_goes_on}
 use Rattle.modules.specs.declared.fault.FormatRefusalKind.TheVariants.{BadValue}
-use Rattle.modules.specs.Format.{any, exceptions, channels, declared, is_built_in, channel_after, channel_names, direction, label, is_among, is_new_name, name_after}
+use Rattle.modules.specs.Format.{any, declared, channel_after, direction, label, is_among, name_after}
+use Rattle.modules.specs.FormatParts.{exceptions, channels, is_built_in, channel_names, is_new_name}
 
 not_utf8 : (text : List ℕ) (b : Bool) → is_utf8 text ≡ b → ¬ IsUtf8 text → b ≡ false
 not_utf8 text true e h = absurd (h (IsUtf8-from_is_utf8 text e))
@@ -140,17 +141,19 @@ same_channels count taken names bytes same =
     let all : (λ (q : List ℕ). is_built_in q || is_among names q) ≡ taken = λ i q. sym (same q) i in
     ap (λ (test : List ℕ → Bool). counted_channels count test bytes) all
 
+declared-is : (count : ℕ) → declared count ≡ Then exceptions (channels count)
+unfolding declared exceptions channels
+declared-is count = refl
+
 pub declared-read : (count : ℕ) (taken : List ℕ → Bool) (bytes : List ℕ) (names : List (List ℕ)) (rest : List ℕ) (all : List ChannelContents) (after : List ℕ) → read exceptions bytes ≡ Ok (names, rest)
     → ((q : List ℕ) → taken q ≡ (is_built_in q || is_among names q)) → counted_channels count taken rest ≡ Ok (all, after) → read (declared count) bytes ≡ Ok ((names, all), after)
-unfolding declared
 declared-read count taken bytes names rest all after e same f =
     let found : read (channels count names) rest ≡ Ok (all, after) = same_channels count taken names rest same ∙ f in
-    rw (e, found) refl
+    rw (declared-is count, e, found) refl
 
 pub declared-fails : (e : OrNoMemory ReadRefusal) (count : ℕ) (taken : List ℕ → Bool) (bytes : List ℕ) (names : List (List ℕ)) (rest : List ℕ) → read exceptions bytes ≡ Ok (names, rest)
     → ((q : List ℕ) → taken q ≡ (is_built_in q || is_among names q)) → ReadingFails e (counted_channels count taken rest) → ReadingFails e (read (declared count) bytes)
-unfolding declared
 declared-fails NoMemory count taken bytes names rest e same f = tt
 declared-fails (Refused stop) count taken bytes names rest e same f =
     let found : read (channels count names) rest ≡ Err stop = same_channels count taken names rest same ∙ f in
-    rw (e, found) refl
+    rw (declared-is count, e, found) refl

@@ -1,14 +1,14 @@
 -- What is read is spelled so, and fits.
 use Rattle.std.proofs.Common.{◌≡◌, ℕ, zero, suc, ◌-◌, ◌<◌, ◌≤◌, cond, ltb, eqb, List, [], ◌∷◌, ◌++◌, length, Option, Some, None, Ok, Err, refl, sym, ap, subst, ◌∙◌, append_assoc, arith, length-append}
 use Rattle.std.specs.Int.{w32, to_be_bytes}
-use Rattle.std.specs.List.{AllByRecursion}
+use Rattle.std.specs.List.{AllByRecursion, position_or_len, slice_get}
 use Rattle.std.proofs.lemmas.Bool.{ltb-true, eqb-true}
 use Rattle.std.proofs.lemmas.List.{append-nil}
 use Rattle.modules.specs.declared.fault.FormatRefusalKind.TheVariants.{BadValue}
 use Rattle.modules.specs.Opcodes.{Coding, code_bytes, instructions}
 use Rattle.modules.specs.declared.instruction.Instruction.{Instruction}
 use Rattle.modules.specs.declared.version.Version.{Version}
-use Rattle.modules.specs.ByteFormat.{ByteFormat, Byte, Number, Text, Nothing, Marked, Checked, Then, Counted, Code, Named, spelled_each, spelled_instruction, spelled_code, spelled, FitEach, IsCoded, Fits, stop_at, ◌>>=◌, number_at, bytes_at, each_at, meant, operand_at, instruction_in, code_at, read}
+use Rattle.modules.specs.ByteFormat.{ByteFormat, OneOf, Number, Text, Nothing, Marked, Checked, Then, Counted, Code, Named, spelled_each, spelled_instruction, spelled_code, spelled, FitEach, IsCoded, Fits, stop_at, ◌>>=◌, number_at, bytes_at, each_at, meant, operand_at, instruction_in, code_at, read}
 use Rattle.modules.proofs.Spelling.{all_spelled, code-bytes}
 use Rattle.bytecode.proofs.Steps.{IsBytes, bytes_rest, step, passed, same_value, bytes_taken_at, number_taken_at}
 use Rattle.bytecode.proofs.Coherent.{IsLawful, Coherent}
@@ -159,10 +159,15 @@ version_taken version lawful bytes code rest fits e =
     }
 
 pub taken : {A : Type 0} (form : ByteFormat A) → Coherent form → IsTaken form
-taken Byte coherent [] x rest fits e = absurd cc
-taken Byte coherent (b ∷ bytes) x rest fits e =
-    let both = same_value (b, bytes) (x, rest) e in
-    subst (λ (p : ℕ × List ℕ). Takes Byte (b ∷ bytes) p.0 p.1) both (record { fits = fits.below 0; joined = refl; after = bytes_rest b bytes fits })
+taken (OneOf same values) coherent [] x rest fits e = absurd cc
+taken (OneOf same values) coherent (b ∷ bytes) x rest fits e =
+    let m = meant_taken (slice_get values b) (b ∷ bytes) bytes x rest e in
+    let number : position_or_len (same x) values ≡ b = coherent b x m.0 in
+    record {
+      fits = ap (slice_get values) number ∙ m.0;
+      joined = λ i. sym number i ∷ m.1 i;
+      after = subst IsBytes m.1 (bytes_rest b bytes fits);
+    }
 taken Number coherent bytes x rest fits e =
     let t = number_taken_at bytes x rest fits e in
     record { fits = t.1; joined = t.0.joined; after = t.0.after }

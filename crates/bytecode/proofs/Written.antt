@@ -1,8 +1,8 @@
 -- What is written of a module is its spelling, and its lengths and counts fit four bytes.
-use Rattle.std.proofs.Common.{◌≡◌, ℕ, Bool, true, false, cond, eqb, ltb, ◌||◌, List, [], ◌∷◌, ◌++◌, length, All, refl, sym, ap, ◌∙◌, append_assoc}
-use Rattle.std.specs.Int.{w32, cast_signed}
+use Rattle.std.proofs.Common.{◌≡◌, ℕ, Bool, false, cond, ◌||◌, List, [], ◌∷◌, ◌++◌, length, All, Option, Some, None, refl, sym, ap, ◌∙◌, append_assoc}
+use Rattle.std.specs.Int.{w32, cast_unsigned}
 use Rattle.std.specs.List.{flat_map, AllByRecursion}
-use Rattle.std.proofs.lemmas.List.{length-map}
+use Rattle.std.proofs.lemmas.List.{append-nil, length-map}
 use Rattle.std.proofs.lemmas.List.Elements.{All-from_recursion, recursion_from_All}
 use Rattle.std.specs.Global.{Global as Allocator}
 use Rattle.std.specs.Prelude.{String, string_bytes}
@@ -10,17 +10,21 @@ use Rattle.bytecode.specs.Reading.{texts}
 use Rattle.labels.specs.Label.{ReaderPolicy, Label}
 use Rattle.principals.specs.ActsFor.{PrincipalHierarchy}
 use Rattle.modules.specs.declared.version.Version.{Version}
+use Rattle.common.specs.declared.base_type.BaseType.{BaseType}
 use Rattle.common.specs.declared.base_type.BaseType.TheVariants as kind
+use Rattle.common.specs.declared.direction.Direction.{Direction}
+use Rattle.common.specs.declared.direction.Direction.TheVariants.{Input, Output}
 use Rattle.modules.specs.declared.declaration.Slot.{Slot}
+use Rattle.modules.specs.declared.declaration.Slot.TheVariants as slot
 use Rattle.modules.specs.declared.declaration.Global.{Global}
 use Rattle.modules.specs.declared.declaration.Global.TheVariants as global
 use Rattle.modules.specs.declared.declaration.Handler.{Handler}
-use Rattle.modules.specs.declared.fault.FormatRefusalKind.TheVariants.{BadValue}
 use Rattle.modules.specs.Contents.{ChannelContents, ProcedureContents, ModuleContents}
-use Rattle.modules.specs.ByteFormat.{ByteFormat, Number, Checked, Fits, FitEach, spelled, spelled_each}
+use Rattle.modules.specs.ByteFormat.{ByteFormat, Fits, FitEach, spelled, spelled_each}
 use Rattle.modules.specs.Opcodes.{code_bytes}
-use Rattle.modules.specs.Format.{direction_byte, kind_byte, returned_byte, magic, version, version_number, is_built_in, is_among, channel_names, name_after, number_below, principals, pair_after, hierarchy, exceptions, direction, reader_after, policy_after, label, channel_after, channels, declared, of_scalar, global_after, globals, slot_after, slots, variable_kind, returned, handler, handlers, procedure, procedures, main, program, contents, module_file}
-use Rattle.bytecode.specs.Writing.{number_bytes, list_bytes, text_bytes, pair_bytes, policy_bytes, channel_bytes, variable_bytes, slot_bytes, handler_bytes, procedure_bytes, module_bytes, IsShort, PolicyFits, ChannelFits, ProcedureFits, ModuleFits}
+use Rattle.modules.specs.Format.{version, version_number, is_among, name_after, number_below, hierarchy, direction, policy, label, channel_after, declared, slot_beside, slot_fields, global_after, slots, variable_kind, returned, handler, procedure, main, module_file}
+use Rattle.modules.specs.FormatParts.{magic, is_built_in, channel_names, principals, pair_after, exceptions, reader_after, policy_after, channels, globals, slot_after, procedures, program, contents}
+use Rattle.bytecode.specs.Writing.{direction_byte, kind_byte, returned_byte, number_bytes, list_bytes, text_bytes, pair_bytes, policy_bytes, channel_bytes, variable_bytes, slot_bytes, handler_bytes, procedure_bytes, module_bytes, IsShort, PolicyFits, ChannelFits, ProcedureFits, ModuleFits}
 
 -- ---- lists
 
@@ -65,7 +69,7 @@ unfolding pair_after number_below
 pair-bytes count before x h = refl
 
 hierarchy-bytes : (h : PrincipalHierarchy) → Fits hierarchy h → spelled hierarchy h ≡ list_bytes text_bytes h.names ++ list_bytes pair_bytes h.pairs
-unfolding hierarchy principals
+unfolding hierarchy principals pair_after
 hierarchy-bytes h f =
     two (counted_bytes (name_after (λ _. false)) text_bytes (name_bytes (λ _. false)) h.names f.0.0.2)
     (counted_bytes (pair_after (length h.names)) pair_bytes (pair-bytes (length h.names)) h.pairs f.0.1.2)
@@ -77,24 +81,29 @@ unfolding reader_after number_below
 reader-bytes count owner before x h = refl
 
 policy-bytes : (count : ℕ) (before : List ReaderPolicy) (x : ReaderPolicy) → Fits (policy_after count before) x → spelled (policy_after count before) x ≡ policy_bytes x
-unfolding policy_after policy_bytes number_below
+unfolding policy_after policy policy_bytes reader_after number_below
 policy-bytes count before x h = ap (λ (bytes : List ℕ). number_bytes x.owner ++ bytes) (counted_bytes (reader_after count x.owner) number_bytes (reader-bytes count x.owner) x.readers h.0.0.1.2)
 
 policy_short : (count : ℕ) (before : List ReaderPolicy) (x : ReaderPolicy) → Fits (policy_after count before) x → PolicyFits x
-unfolding policy_after
+unfolding policy_after policy
 policy_short count before x h = h.0.0.1.0
 
 label-bytes : (count : ℕ) (x : Label) → Fits (label count) x → spelled (label count) x ≡ list_bytes policy_bytes x
-unfolding label
+unfolding label policy_after
 label-bytes count x h = counted_bytes (policy_after count) policy_bytes (policy-bytes count) x h.2
 
 label_short : (count : ℕ) (x : Label) → Fits (label count) x → IsShort x × All PolicyFits x
-unfolding label
+unfolding label policy_after
 label_short count x h = (h.0, all_have (policy_after count) PolicyFits (policy_short count) x h.2)
 
+direction-bytes : (d : Direction) → spelled direction d ≡ direction_byte d ∷ []
+unfolding direction
+direction-bytes Input = refl
+direction-bytes Output = refl
+
 channel-bytes : (count : ℕ) (taken : List ℕ → Bool) (before : List ChannelContents) (x : ChannelContents) → Fits (channel_after count taken before) x → spelled (channel_after count taken before) x ≡ channel_bytes x
-unfolding channel_after channel_bytes direction
-channel-bytes count taken before x h = after (direction_byte x.direction ∷ []) (two (name_bytes taken (channel_names before) x.name h.0.1.0) (label-bytes count x.label h.0.1.1))
+unfolding channel_after channel_bytes
+channel-bytes count taken before x h = two (direction-bytes x.direction) (two (name_bytes taken (channel_names before) x.name h.0.1.0) (label-bytes count x.label h.0.1.1))
 
 channel_fits : (count : ℕ) (taken : List ℕ → Bool) (before : List ChannelContents) (x : ChannelContents) → Fits (channel_after count taken before) x → ChannelFits x
 unfolding channel_after
@@ -113,37 +122,43 @@ declared-bytes count names all h =
 
 -- ---- globals and procedures
 
-int_array : (size : ℕ) (b : Bool) → cond b (global.Int (cast_signed w32 0)) (global.Array kind.Int size) ≡ global.Array kind.Int size → spelled (of_scalar b Number) 0 ≡ []
-int_array size true e = absurd cc
-int_array size false e = refl
+kind-bytes : (k : BaseType) → spelled variable_kind k ≡ kind_byte k ∷ []
+unfolding variable_kind
+kind-bytes kind.Int = refl
+kind-bytes kind.Boolean = refl
 
-boolean_array : (size : ℕ) (b : Bool) → cond b (global.Boolean (eqb 0 1)) (global.Array kind.Boolean size) ≡ global.Array kind.Boolean size → spelled (of_scalar b (Checked BadValue (λ n. ltb n 2) Number)) 0 ≡ []
-boolean_array size true e = absurd cc
-boolean_array size false e = refl
+slot_beside-bytes : (cells : ℕ) (test : ℕ → Bool) (x : Slot) → spelled (slot_beside cells test) x ≡ slot_bytes x
+unfolding slot_beside
+slot_beside-bytes cells test x = ap (λ (bytes : List ℕ). bytes ++ number_bytes (slot_fields x).1) (kind-bytes (slot_fields x).0)
 
 global-bytes : (before : List Global) (x : Global) → Fits (global_after before) x → spelled (global_after before) x ≡ variable_bytes x
-unfolding global_after variable_kind
-global-bytes before (global.Int n) h = refl
-global-bytes before (global.Boolean b) h = refl
-global-bytes before (global.Array kind.Int size) h = ap (λ (bytes : List ℕ). (kind_byte kind.Int ∷ []) ++ (number_bytes size ++ bytes)) (int_array size (eqb size 0) h.1)
-global-bytes before (global.Array kind.Boolean size) h = ap (λ (bytes : List ℕ). (kind_byte kind.Boolean ∷ []) ++ (number_bytes size ++ bytes)) (boolean_array size (eqb size 0) h.1)
+unfolding global_after
+global-bytes before (global.Int n) h = ap (λ (bytes : List ℕ). bytes ++ number_bytes (cast_unsigned w32 n)) (slot_beside-bytes _ _ (slot.Scalar kind.Int))
+global-bytes before (global.Boolean b) h = ap (λ (bytes : List ℕ). bytes ++ number_bytes (cond b 1 0)) (slot_beside-bytes _ _ (slot.Scalar kind.Boolean))
+global-bytes before (global.Array kind size) h = append-nil (spelled (slot_beside _ _) (slot.Array kind size)) ∙ slot_beside-bytes _ _ (slot.Array kind size)
 
 slot-bytes : (count : ℕ) (before : List Slot) (x : Slot) → Fits (slot_after count before) x → spelled (slot_after count before) x ≡ slot_bytes x
-unfolding slot_after variable_kind
-slot-bytes count before x h = refl
+unfolding slot_after
+slot-bytes count before x h = slot_beside-bytes _ _ x
+
+returned-bytes : (result : Option BaseType) → spelled returned result ≡ returned_byte result ∷ []
+unfolding returned
+returned-bytes None = refl
+returned-bytes (Some kind.Int) = refl
+returned-bytes (Some kind.Boolean) = refl
 
 handler-bytes : (before : List Handler) (x : Handler) → Fits handler x → spelled handler x ≡ handler_bytes x
 unfolding handler handler_bytes
 handler-bytes before x h = refl
 
 procedure-bytes : (v : Version) (before : List ProcedureContents) (x : ProcedureContents) → Fits (procedure v) x → spelled (procedure v) x ≡ procedure_bytes x
-unfolding procedure procedure_bytes returned slots handlers
+unfolding procedure procedure_bytes slots slot_after
 procedure-bytes v before x h =
-    after (returned_byte x.returned ∷ []) (after (number_bytes x.parameters) (two (counted_bytes (slot_after x.parameters) slot_bytes (slot-bytes x.parameters) x.slots h.0.1.1.0.2)
+    two (returned-bytes x.returned) (after (number_bytes x.parameters) (two (counted_bytes (slot_after x.parameters) slot_bytes (slot-bytes x.parameters) x.slots h.0.1.1.0.2)
     (after (number_bytes (length (code_bytes x.code)) ++ code_bytes x.code) (counted_bytes (λ _. handler) handler_bytes handler-bytes x.handlers h.0.1.1.1.1.2))))
 
 procedure_fits : (v : Version) (before : List ProcedureContents) (x : ProcedureContents) → Fits (procedure v) x → ProcedureFits x
-unfolding procedure slots handlers
+unfolding procedure slots
 procedure_fits v before x h = record {
   slots = h.0.1.1.0.0;
   code = h.0.1.1.1.0.0;
@@ -157,7 +172,7 @@ program-bytes v g ps n h = two (counted_bytes global_after variable_bytes global
 -- ---- modules
 
 pub module-bytes : (m : ModuleContents) → Fits module_file m → spelled module_file m ≡ module_bytes m
-unfolding module_file version contents module_bytes
+unfolding module_file version contents program globals procedures module_bytes
 module-bytes m h =
     after (number_bytes magic) (after (number_bytes (version_number m.version)) (two (hierarchy-bytes m.hierarchy h.0.1.0) (two (declared-bytes (length m.hierarchy.names) m.exceptions m.channels h.0.1.1.0) (program-bytes m.version m.globals m.procedures m.main h.0.1.1.1))))
 
@@ -195,7 +210,7 @@ unfolding program globals procedures
 program_fits v g ps n h = record { globals_short = h.0.0; procedures_short = h.1.0.0; each = all_have (λ _. procedure v) ProcedureFits (procedure_fits v) ps h.1.0.2 }
 
 pub module_fits : (m : ModuleContents) → Fits module_file m → ModuleFits m
-unfolding module_file contents
+unfolding module_file contents program globals procedures
 module_fits m h =
     let p = hierarchy_fits m.hierarchy h.0.1.0 in
     let d = declared_fits (length m.hierarchy.names) m.exceptions m.channels h.0.1.1.0 in

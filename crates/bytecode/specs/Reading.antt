@@ -5,7 +5,7 @@ use Rattle.std.specs.Prelude.{◌≡◌, ℕ, ◌+◌, ◌-◌, ◌≤◌, List,
 use Rattle.common.specs.Answers.{Answers}
 use Rattle.common.specs.declared.fault.OrNoMemory.{OrNoMemory}
 use Rattle.modules.specs.ByteFormat.{code_at, instruction_in}
-use Rattle.modules.specs.Format.{FieldsOfVersion}
+use Rattle.modules.specs.FormatParts.{FieldsOfVersion}
 use Rattle.modules.specs.Opcodes.{instructions}
 use Rattle.modules.specs.declared.instruction.Instruction.{Instruction}
 use Rattle.modules.specs.declared.version.Version.{Version}

@@ -1,17 +1,35 @@
 -- Private: the bytes that the functions that write add, value by value.
 -- Source: our own.
-use Rattle.std.specs.Prelude.{ℕ, ◌^◌, ◌<◌, List, [], ◌∷◌, ◌++◌, length, All, if◌then◌else◌}
+use Rattle.std.specs.Prelude.{ℕ, ◌^◌, ◌<◌, List, [], ◌∷◌, ◌++◌, length, All, Option, Some, None, if◌then◌else◌}
 use Rattle.std.specs.Int.{w32, cast_unsigned, to_be_bytes}
 use Rattle.std.specs.List.{flat_map}
 use Rattle.labels.specs.Label.{ReaderPolicy}
 use Rattle.modules.specs.declared.declaration.Slot.{Slot}
 use Rattle.modules.specs.declared.declaration.Global.{Global}
 use Rattle.modules.specs.declared.declaration.Global.TheVariants as global
+use Rattle.common.specs.declared.base_type.BaseType.{BaseType}
 use Rattle.common.specs.declared.base_type.BaseType.TheVariants as kind
+use Rattle.common.specs.declared.direction.Direction.{Direction}
+use Rattle.common.specs.declared.direction.Direction.TheVariants.{Input, Output}
 use Rattle.modules.specs.declared.declaration.Handler.{Handler}
 use Rattle.modules.specs.Contents.{ChannelContents, ProcedureContents, ModuleContents}
 use Rattle.modules.specs.Opcodes.{code_bytes}
-use Rattle.modules.specs.Format.{direction_byte, kind_byte, magic, returned_byte, slot_fields, version_number}
+use Rattle.modules.specs.Format.{slot_fields, version_number}
+use Rattle.modules.specs.FormatParts.{magic}
+
+-- the bytes of what is one of a few: the number of its place among them
+abbrev pub direction_byte : Direction → ℕ
+direction_byte Input = 0
+direction_byte Output = 1
+
+abbrev pub kind_byte : BaseType → ℕ
+kind_byte kind.Int = 0
+kind_byte kind.Boolean = 1
+
+abbrev pub returned_byte : Option BaseType → ℕ
+returned_byte None = 0
+returned_byte (Some kind.Int) = 1
+returned_byte (Some kind.Boolean) = 2
 
 abbrev pub number_bytes : ℕ → List ℕ
 number_bytes n = to_be_bytes w32 n

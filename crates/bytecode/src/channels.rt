@@ -85,7 +85,7 @@ fn read_counted_channels(
 }
 
 /// The names of the declared exceptions, and the channels with labels among the principals of the hierarchy.
-#[tactic(auto, unfolding(modules::specs::Format::declared))]
+#[tactic(auto, unfolding(modules::specs::Format::declared, modules::specs::FormatParts::exceptions))]
 pub(crate) fn read_declared<'a>(
     alloc: Global,
     hierarchy: &Hierarchy,

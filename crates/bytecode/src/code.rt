@@ -7,7 +7,9 @@ ghost use Rattle.bytecode.specs.Reading.{Decodes, GoesOn, IsFirst, IsRest};
 ghost use Rattle.modules.specs.declared.version.Version.{Version};
 ghost use Rattle.std.specs.Prelude.{[], IfOk, IfSome, length, ◌+◌, ◌≡◌, ◌≤◌};
 
-use crate::reading::{FieldFault, give_back, grow, read_byte, read_number, read_text, refuse};
+use crate::reading::{
+    FieldFault, first_number, give_back, grow, read_byte, read_number, read_text, refuse,
+};
 use modules::instruction::Instruction;
 use modules::opcode::{entry_of, instruction_of, numbered_instruction, width_after};
 use modules::{FormatRefusalKind, Version};
@@ -20,10 +22,7 @@ fn read_numbered(bytes: &[u8]) -> Option<Instruction>
     ensures gives { IfSome result (λ x. (version : Version) → IsFirst version 5 x bytes.now) }
     ensures width { IfSome result (λ x. width_of x ≡ 5) }
 {
-    let Ok((number, _after)) = read_number(&bytes[1..]) else {
-        return None;
-    };
-    numbered_instruction(bytes[0], number)
+    numbered_instruction(bytes[0], first_number(&bytes[1..]))
 }
 
 /// The instruction without an operand that the first byte is, if it is one and the version has it.
@@ -98,21 +97,30 @@ fn read_most(
     ensures rest { IfOk result (λ x. IsRest bytes.now x.1.now) }
 {
     let mut code = before;
-    let mut front = bytes;
-    while front.len() >= 5 {
+    let mut at = 0;
+    while bytes.len() - at >= 5 {
         if code.len() == code.capacity() {
             code = grow(code)?;
         }
-        if let Some(next) = read_numbered(front) {
-            code.push_reserved(next);
-            front = &front[5..];
-        } else if let Some(next) = read_plain(version, front) {
-            code.push_reserved(next);
-            front = &front[1..];
-        } else {
+        // So many have their bytes and their places, however wide they are.
+        let stop = code.len() + ((bytes.len() - at) / 5).min(code.capacity() - code.len());
+        while code.len() < stop {
+            let front = &bytes[at..];
+            if let Some(next) = read_numbered(front) {
+                code.push_reserved(next);
+                at += 5;
+            } else if let Some(next) = read_plain(version, front) {
+                code.push_reserved(next);
+                at += 1;
+            } else {
+                break;
+            }
+        }
+        if code.len() < stop {
             break;
         }
     }
+    let mut front = &bytes[at..];
     while front.len() < 5 && !front.is_empty() {
         if code.len() == code.capacity() {
             code = grow(code)?;

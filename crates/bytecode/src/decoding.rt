@@ -5,7 +5,8 @@ ghost use Rattle.modules.specs.ContentsOf.{contents_of};
 ghost use Rattle.common.specs.Answers.{Answers, IfRefused};
 ghost use Rattle.bytecode.specs.Decoded.{first_refusal};
 ghost use Rattle.modules.specs.ByteFormat.{read, read_all, Spells};
-ghost use Rattle.modules.specs.Format.{contents, main, module_file, program, version};
+ghost use Rattle.modules.specs.Format.{main, module_file, version};
+ghost use Rattle.modules.specs.FormatParts.{contents, program};
 ghost use Rattle.bytecode.specs.Reading.{Decodes, fields_of};
 ghost use Rattle.std.specs.Prelude.{IfErr, IfOk, Some, ◌≡◌};
 
@@ -49,7 +50,7 @@ fn read_main<'a>(procedures: &[Procedure], bytes: &'a [u8]) -> Result<(u32, &'a 
 }
 
 /// The globals, the procedures, and the number of the one where a run starts, in a file of the version.
-#[tactic(auto, unfolding(modules::specs::Format::program))]
+#[tactic(auto, unfolding(modules::specs::FormatParts::program))]
 fn read_program(
     alloc: Global,
     version: Version,
@@ -70,7 +71,7 @@ fn read_program(
 }
 
 /// The contents of a module of the version, after magic and version.
-#[tactic(auto, unfolding(modules::specs::Format::contents))]
+#[tactic(auto, unfolding(modules::specs::FormatParts::contents))]
 fn read_contents(
     alloc: Global,
     version: Version,
@@ -109,7 +110,7 @@ fn read_version(bytes: &[u8]) -> Result<(Version, &[u8]), FieldFault>
 }
 
 /// The contents of a module after magic and version, which are tested.
-#[tactic(auto, unfolding(modules::specs::Format::module_file))]
+#[tactic(auto, unfolding(modules::specs::Format::module_file, modules::specs::FormatParts::contents, modules::specs::FormatParts::program, modules::specs::FormatParts::globals, modules::specs::FormatParts::procedures))]
 fn read_file(alloc: Global, bytes: &[u8]) -> Result<(Contents, &[u8]), FieldFault>
     ensures { Decodes (λ x. (contents_of x.0, x.1.now)) result (read module_file bytes.now) }
 {

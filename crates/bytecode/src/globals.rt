@@ -2,7 +2,8 @@
 
 ghost use Rattle.common.specs.declared.limits.TheConstants.{MAX_CELLS};
 ghost use Rattle.modules.specs.ByteFormat.{read};
-ghost use Rattle.modules.specs.Format.{first_value, global_after, global_cells, global_of, globals, variable_kind};
+ghost use Rattle.modules.specs.Format.{first_value, global_after, global_of, slot_of, variable_kind};
+ghost use Rattle.modules.specs.FormatParts.{global_cells, globals};
 ghost use Rattle.bytecode.specs.Reading.{Decodes};
 ghost use Rattle.std.specs.Prelude.{◌<◌, ◌≡◌, ◌≤◌};
 
@@ -28,7 +29,8 @@ pub(crate) fn read_kind(bytes: &[u8]) -> Result<(BaseType, &[u8]), FieldFault>
 
 /// The first value of a scalar, and 0 for an array, which has none.
 fn read_first_value(kind: BaseType, size: u32, bytes: &[u8]) -> Result<(u32, &[u8]), FieldFault>
-    ensures { Decodes (λ x. (x.0, x.1.now)) result (read (first_value kind size) bytes.now) }
+    ensures { Decodes (λ x. (x.0, x.1.now)) result (read (first_value (slot_of (kind, size)))
+        bytes.now) }
 {
     if size != 0 {
         return Ok((0, bytes));
@@ -46,7 +48,7 @@ fn read_first_value(kind: BaseType, size: u32, bytes: &[u8]) -> Result<(u32, &[u
 }
 
 fn global_of(kind: BaseType, size: u32, first: u32) -> Variable
-    ensures { result ≡ global_of (kind, (size, first)) }
+    ensures { result ≡ global_of (slot_of (kind, size), first) }
 {
     if size != 0 {
         return Variable::Array(kind, size);
@@ -69,7 +71,7 @@ impl Element for GlobalField {
 
     ghost holds = { λ self cells before. (cells ≡ global_cells before) × (cells ≤ MAX_CELLS) };
 
-    #[tactic(auto, unfolding(modules::specs::Format::global_after))]
+    #[tactic(auto, unfolding(modules::specs::Format::global_after, modules::specs::Format::slot_beside))]
     fn read<'a>(
         &self,
         _alloc: Global,
@@ -89,7 +91,7 @@ impl Element for GlobalField {
 }
 
 /// The globals after their count.
-#[tactic(auto, unfolding(modules::specs::Format::globals))]
+#[tactic(auto, unfolding(modules::specs::FormatParts::globals))]
 pub(crate) fn read_globals(
     alloc: Global,
     bytes: &[u8],

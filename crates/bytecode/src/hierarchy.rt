@@ -1,7 +1,8 @@
 //! Reading of hierarchies and labels.
 
 ghost use Rattle.modules.specs.ByteFormat.{Counted, read};
-ghost use Rattle.modules.specs.Format.{any, hierarchy, label, number_below, pair_after, policy_after, principals, reader_after};
+ghost use Rattle.modules.specs.Format.{any, hierarchy, label, number_below};
+ghost use Rattle.modules.specs.FormatParts.{pair_after, policy_after, principals, reader_after};
 ghost use Rattle.bytecode.specs.Reading.{Decodes, texts};
 
 use crate::names::read_first_names;
@@ -25,7 +26,7 @@ fn read_number_below(count: u32, bytes: &[u8]) -> Result<(u32, &[u8]), FieldFaul
 }
 
 /// The names of the principals after their count.
-#[tactic(auto, unfolding(modules::specs::Format::principals))]
+#[tactic(auto, unfolding(modules::specs::FormatParts::principals))]
 fn read_principals(alloc: Global, bytes: &[u8]) -> Result<(Vec<String>, &[u8]), FieldFault>
     ensures { Decodes (λ x. (texts x.0.items, x.1.now)) result (read principals bytes.now) }
 {
@@ -51,7 +52,7 @@ impl Element for PairField {
 
     ghost holds = { λ self state before. Unit {0} };
 
-    #[tactic(auto, unfolding(modules::specs::Format::pair_after))]
+    #[tactic(auto, unfolding(modules::specs::FormatParts::pair_after))]
     fn read<'a>(
         &self,
         _alloc: Global,
@@ -88,7 +89,7 @@ impl Element for ReaderField {
 
     ghost holds = { λ self state before. Unit {0} };
 
-    #[tactic(auto, unfolding(modules::specs::Format::reader_after))]
+    #[tactic(auto, unfolding(modules::specs::FormatParts::reader_after))]
     fn read<'a>(
         &self,
         _alloc: Global,
@@ -124,7 +125,7 @@ impl Element for PolicyField {
 
     ghost holds = { λ self state before. Unit {0} };
 
-    #[tactic(auto, unfolding(modules::specs::Format::policy_after))]
+    #[tactic(auto, unfolding(modules::specs::FormatParts::policy_after, modules::specs::Format::policy, modules::specs::FormatParts::reader_after))]
     fn read<'a>(
         &self,
         alloc: Global,
@@ -160,7 +161,7 @@ fn read_readers(
 }
 
 /// The policies of a label after their count.
-#[tactic(auto, unfolding(modules::specs::Format::label))]
+#[tactic(auto, unfolding(modules::specs::Format::label, modules::specs::FormatParts::policy_after))]
 fn read_policies(
     alloc: Global,
     principals: u32,
@@ -198,7 +199,7 @@ fn read_pairs(
 }
 
 /// The hierarchy.
-#[tactic(auto, unfolding(modules::specs::Format::hierarchy))]
+#[tactic(auto, unfolding(modules::specs::Format::hierarchy, modules::specs::FormatParts::principals))]
 pub(crate) fn read_hierarchy(alloc: Global, bytes: &[u8]) -> Result<(Hierarchy, &[u8]), FieldFault>
     ensures { Decodes (λ x. (x.0, x.1.now)) result (read hierarchy bytes.now) }
 {

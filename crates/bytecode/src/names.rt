@@ -1,7 +1,8 @@
 //! Reading of names.
 
 ghost use Rattle.modules.specs.ByteFormat.{each_at, read};
-ghost use Rattle.modules.specs.Format.{exceptions, is_among, is_built_in, is_new_name, name_after};
+ghost use Rattle.modules.specs.Format.{is_among, name_after};
+ghost use Rattle.modules.specs.FormatParts.{exceptions, is_built_in, is_new_name};
 ghost use Rattle.bytecode.specs.Reading.{Decodes, texts};
 ghost use Rattle.std.specs.BTreeSet.{contains_text};
 ghost use Rattle.std.specs.Prelude.{[], bytes_eq, false, IfOk, List, MatchOption, OnOk, true, ℕ, ◌||◌, ◌≡◌};
@@ -111,7 +112,7 @@ pub(crate) fn take_built_in(alloc: Global) -> Result<BTreeSet<String>, AllocErro
 }
 
 /// The declared exceptions after their count, where the built-in ones are taken.
-#[tactic(auto, unfolding(modules::specs::Format::exceptions))]
+#[tactic(auto, unfolding(modules::specs::FormatParts::exceptions))]
 pub(crate) fn read_exceptions<'a>(
     alloc: Global,
     taken: &mut BTreeSet<String>,

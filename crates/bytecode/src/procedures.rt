@@ -2,7 +2,8 @@
 
 ghost use Rattle.common.specs.declared.limits.TheConstants.{MAX_CELLS};
 ghost use Rattle.modules.specs.ByteFormat.{read};
-ghost use Rattle.modules.specs.Format.{handler, handlers, procedure, procedures, returned, slot_after, slot_cells, slot_of, slots};
+ghost use Rattle.modules.specs.Format.{handler, procedure, returned, slot_cells, slot_of, slots};
+ghost use Rattle.modules.specs.FormatParts.{handlers, procedures, slot_after};
 ghost use Rattle.bytecode.specs.Reading.{Decodes};
 ghost use Rattle.std.specs.Prelude.{◌≡◌, ◌≤◌};
 
@@ -51,7 +52,7 @@ impl Element for HandlerField {
 }
 
 /// The handlers after their count.
-#[tactic(auto, unfolding(modules::specs::Format::handlers))]
+#[tactic(auto, unfolding(modules::specs::FormatParts::handlers))]
 fn read_handlers(alloc: Global, bytes: &[u8]) -> Result<(Vec<Handler>, &[u8]), FieldFault>
     ensures { Decodes (λ x. (x.0.items, x.1.now)) result (read handlers bytes.now) }
 {
@@ -84,7 +85,7 @@ impl Element for SlotField {
 
     ghost holds = { λ self cells before. (cells ≡ slot_cells before) × (cells ≤ MAX_CELLS) };
 
-    #[tactic(auto, unfolding(modules::specs::Format::slot_after))]
+    #[tactic(auto, unfolding(modules::specs::FormatParts::slot_after, modules::specs::Format::slot_beside))]
     fn read<'a>(
         &self,
         _alloc: Global,
@@ -104,7 +105,7 @@ impl Element for SlotField {
 }
 
 /// The slots after their count, the first of which are parameters. It is not inlined, so that the loop has all registers for itself.
-#[tactic(auto, unfolding(modules::specs::Format::slots))]
+#[tactic(auto, unfolding(modules::specs::Format::slots, modules::specs::FormatParts::slot_after))]
 #[inline(never)]
 fn read_slots(
     alloc: Global,
@@ -149,7 +150,7 @@ impl Element for ProcedureField {
 
     ghost holds = { λ self state before. Unit {0} };
 
-    #[tactic(auto, unfolding(modules::specs::Format::procedure))]
+    #[tactic(auto, unfolding(modules::specs::Format::procedure, modules::specs::FormatParts::handlers))]
     fn read<'a>(
         &self,
         alloc: Global,
@@ -168,7 +169,7 @@ impl Element for ProcedureField {
 }
 
 /// The procedures of a file of the version, after their count.
-#[tactic(auto, unfolding(modules::specs::Format::procedures))]
+#[tactic(auto, unfolding(modules::specs::FormatParts::procedures))]
 pub(crate) fn read_procedures(
     alloc: Global,
     version: Version,

@@ -3,7 +3,7 @@
 ghost use Rattle.modules.specs.ByteFormat.{byte_at, bytes_at, each_at, number_at, Read, stop_at};
 ghost use Rattle.common.specs.declared.fault.OrNoMemory.TheVariants.{Refused};
 ghost use Rattle.bytecode.specs.Reading.{Decodes};
-ghost use Rattle.std.specs.Prelude.{[], IfOk, List, OnOk, ℕ, ◌++◌, ◌<◌, ◌∷◌, ◌≡◌};
+ghost use Rattle.std.specs.Prelude.{[], IfOk, List, Ok, OnOk, drop, length, ℕ, ◌++◌, ◌<◌, ◌≤◌, ◌∷◌, ◌≡◌};
 ghost use Rattle.std.specs.Vec.{vec_capacity, vec_len};
 
 use byteorder::{BigEndian, ByteOrder};
@@ -49,6 +49,16 @@ pub(crate) fn read_number(bytes: &[u8]) -> Result<(u32, &[u8]), FieldFault>
     }
     let (front, rest) = bytes.split_at(4);
     Ok((BigEndian::read_u32(front), rest))
+}
+
+/// The number in the first four bytes, where they are there.
+#[inline(always)]
+pub(crate) fn first_number(bytes: &[u8]) -> u32
+    requires { 4 ≤ length bytes.now }
+    ensures { number_at bytes.now ≡ Ok (result, drop 4 bytes.now) }
+{
+    let (front, _rest) = bytes.split_at(4);
+    BigEndian::read_u32(front)
 }
 
 /// This many bytes.

@@ -1,9 +1,7 @@
 //! Writing of fields, each at the end of what was written before.
 
 ghost use Rattle.modules.specs.Opcodes.{instruction_bytes};
-ghost use Rattle.bytecode.specs.Writing.{channel_bytes, ChannelFits, handler_bytes, IsShort, list_bytes, number_bytes, pair_bytes, policy_bytes, PolicyFits, slot_bytes, text_bytes, variable_bytes};
-ghost use Rattle.modules.specs.Format.{kind_byte};
-ghost use Rattle.modules.specs.Opcodes.{operand_bytes};
+ghost use Rattle.bytecode.specs.Writing.{channel_bytes, ChannelFits, handler_bytes, IsShort, kind_byte, list_bytes, number_bytes, pair_bytes, policy_bytes, PolicyFits, slot_bytes, text_bytes, variable_bytes};
 ghost use Rattle.std.specs.Prelude.{[], All, List, OnOk, ℕ, ◌++◌, ◌∷◌, ◌≡◌};
 ghost use Rattle.std.specs.String.{string_bytes};
 

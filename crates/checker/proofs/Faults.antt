@@ -5,7 +5,7 @@ use Rattle.std.proofs.lemmas.Option.{same_Some}
 use Rattle.common.specs.declared.refusal.RefusalAt.{RefusalAt}
 use Rattle.principals.specs.ActsFor.{PrincipalHierarchy}
 use Rattle.resolved.specs.Program.{Program}
-use Rattle.resolved.specs.ExitFaults.{exit_faults}
+use Rattle.resolved.specs.Labelled.{exit_faults}
 use Rattle.resolved.specs.declared.fault.ExitRefusalKind.{ExitRefusalKind}
 use Rattle.acceptance.specs.Accepted.{IsResolvedFrom}
 use Rattle.acceptance.specs.Refused.{IsSourceRefused, WrongEnd}

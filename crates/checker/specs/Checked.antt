@@ -4,9 +4,8 @@ use Rattle.std.specs.Prelude.{◌≡◌, ℕ, ◌<◌, [], length, Option, Some,
 use Rattle.labels.specs.Label.{Label}
 use Rattle.labels.specs.LabelLattice.{label_lattice}
 use Rattle.resolved.specs.CoreOf.{program_of}
-use Rattle.resolved.specs.ExitFaults.{exit_faults}
 use Rattle.resolved.specs.Flow.{AreLeast}
-use Rattle.resolved.specs.Labelled.{Labelled, OfLocal, Unwritten}
+use Rattle.resolved.specs.Labelled.{Labelled, OfLocal, Unwritten, exit_faults}
 use Rattle.resolved.specs.Names.{HasNames}
 use Rattle.resolved.specs.Program.{Program, procedure_at, slot_at}
 use Rattle.resolved.specs.declared.program.Core.{Core}

@@ -5,8 +5,7 @@ use Rattle.std.specs.Prelude.{◌≡◌, ◌↔◌, ℕ, List, [], map, Option, 
 use Rattle.principals.specs.ActsFor.{PrincipalHierarchy}
 use Rattle.resolved.specs.CoreOf.{program_of}
 use Rattle.resolved.specs.Program.{Program}
-use Rattle.resolved.specs.ExitFaults.{exit_faults}
-use Rattle.resolved.specs.Labelled.{Demand}
+use Rattle.resolved.specs.Labelled.{Demand, exit_faults}
 use Rattle.resolved.specs.Flow.{IsProgramRefused, ReportedStep, reported_step}
 use Rattle.lattices.specs.Constraints.{reported_steps}
 use Rattle.acceptance.specs.Accepted.{HasHierarchy, IsAccepted, IsResolvedFrom, StandFor}

@@ -6,7 +6,7 @@ ghost use Rattle.common.specs.Answers.{IfRefused};
 ghost use Rattle.path_map.specs.EndsOf.{AreEndsOf};
 ghost use Rattle.principals.specs.ActsFor.{PrincipalHierarchy};
 ghost use Rattle.resolved.specs.CoreOf.{program_of};
-ghost use Rattle.resolved.specs.ExitFaults.{exit_faults};
+ghost use Rattle.resolved.specs.Labelled.{exit_faults};
 ghost use Rattle.std.specs.Prelude.{IfErr, IfOk, [], ◌≡◌};
 ghost use Rattle.syntax.specs.Tree.{program_tree};
 

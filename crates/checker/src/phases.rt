@@ -7,7 +7,7 @@ ghost use Rattle.common.specs.Answers.{IfRefused};
 ghost use Rattle.isolation.specs.Larger.{IsolatedUnderLarger};
 ghost use Rattle.path_map.specs.EndsOf.{AreEndsOf};
 ghost use Rattle.resolved.specs.CoreOf.{program_of};
-ghost use Rattle.resolved.specs.ExitFaults.{exit_faults};
+ghost use Rattle.resolved.specs.Labelled.{exit_faults};
 ghost use Rattle.resolved.specs.Flow.{AreLeast};
 ghost use Rattle.resolved.specs.Isolated.{Isolated};
 ghost use Rattle.resolved.specs.Names.{HasNames};

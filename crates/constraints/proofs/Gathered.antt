@@ -14,9 +14,8 @@ use Rattle.lattices.specs.Constraints as formal
 use Rattle.resolved.specs.Flow.{Gathered}
 use Rattle.resolved.specs.declared.program.Core.{Core}
 use Rattle.resolved.specs.CoreOf.{program_of}
-use Rattle.resolved.specs.ExitFaults.{exit_faults}
 use Rattle.resolved.specs.WellFormed.{program_nodes}
-use Rattle.resolved.specs.Labelled.{FitsDemands, Labelling, program_demands}
+use Rattle.resolved.specs.Labelled.{FitsDemands, Labelling, program_demands, exit_faults}
 use Rattle.gathering.specs.Gathered.{AreConstraintsOf, FitsConstraints}
 use Rattle.gathering.specs.Names.{numbered, real_unknowns}
 use Rattle.gathering.specs.Rerouted.{IsRerouted}

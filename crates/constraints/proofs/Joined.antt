@@ -11,7 +11,7 @@ use Rattle.common.specs.declared.operator.Connective.{Connective}
 use Rattle.resolved.specs.declared.expression.Operator.{Operator}
 use Rattle.resolved.specs.Tree.{Expression, Binary, Short}
 use Rattle.common.specs.declared.exceptions.TheConstants.{ARITH}
-use Rattle.resolved.specs.Exits.{divisor_can_raise, is_division, operator_raises, raises}
+use Rattle.resolved.specs.Exits.{divisor_can_raise, is_division, operator_raises, raises, list_if}
 use Rattle.resolved.specs.Labelled.{Join, Scope, any_of, value_label}
 use Rattle.gathering.specs.Walk.{raise_atoms, raise_atoms_all}
 use Rattle.solver.specs.declared.constraints.Atom.{Atom}
@@ -57,10 +57,9 @@ pub short-atoms : (scope : Scope) (connective : Connective) (d e : Expression) (
     → raise_atoms scope (Short connective d e) ≡ raise_atoms scope e ++ (if test then value_label scope d else raise_atoms scope d)
 short-atoms scope connective d e test is = ap (λ b. raise_atoms scope e ++ (if b then value_label scope d else raise_atoms scope d)) is
 
-divides : (b c : Bool) (x : ℕ) → any_of (if b then (if c then x ∷ [] else []) else []) ≡ (b && c)
-divides true true x = refl
-divides true false x = refl
-divides false c x = refl
+divides : (test : Bool) (x : ℕ) → any_of (list_if test (x ∷ [])) ≡ test
+divides true x = refl
+divides false x = refl
 
 pub binary-raises : (operator : Operator) (d e : Expression)
     → any_of (raises (Binary operator d e)) ≡ (any_of (raises d) || (any_of (raises e) || (is_division operator && divisor_can_raise e)))
@@ -68,7 +67,7 @@ binary-raises operator d e =
     any-append (raises d ++ raises e) (operator_raises operator e)
     ∙ (ap (λ b. b || any_of (operator_raises operator e)) (any-append (raises d) (raises e))
     ∙ (or_assoc (any_of (raises d)) (any_of (raises e)) (any_of (operator_raises operator e))
-    ∙ ap (λ b. any_of (raises d) || (any_of (raises e) || b)) (divides (is_division operator) (divisor_can_raise e) ARITH)))
+    ∙ ap (λ b. any_of (raises d) || (any_of (raises e) || b)) (divides (is_division operator && divisor_can_raise e) ARITH)))
 
 pub binary-true : (operator : Operator) (d e : Expression) → (is_division operator && divisor_can_raise e) ≡ true → true ≡ any_of (raises (Binary operator d e))
 binary-true operator d e is =

@@ -8,8 +8,8 @@ use Rattle.resolved.specs.declared.statement.Exit.TheVariants.{Normal, Return, B
 use Rattle.resolved.specs.declared.target.Target.TheVariants.{ToEnd, ToThrown}
 use Rattle.resolved.specs.Tree.{Expression, Integer, Logical, Read, Element, Unary, Binary, Short}
 use Rattle.resolved.specs.Program.{Program, procedure_at}
-use Rattle.resolved.specs.Exits.{index_can_raise, divisor_can_raise, is_division, raises}
-use Rattle.resolved.specs.Labelled.{Scope, Join, LabelAtom, one, label_of, variable_label, value_label, raise_label, label_if, any_of, call_exit_labels}
+use Rattle.resolved.specs.Exits.{index_can_raise, divisor_can_raise, is_division, raises, list_if}
+use Rattle.resolved.specs.Labelled.{Scope, Join, LabelAtom, one, label_of, variable_label, value_label, raise_label, any_of, call_exit_labels}
 use Rattle.gathering.specs.Walk.{raise_atoms, raise_atoms_all, store_atoms, call_atoms}
 
 abbrev pub Sub : Join → Join → Type 0
@@ -44,16 +44,16 @@ sub-second x y z f a h = Contains-append_right y z a (f a h)
 sub-itself : (x : Join) → Sub x x
 sub-itself x a h = h
 
-label_if-below : (b : Bool) (x : Join) → Sub (label_if b x) x
-label_if-below true x = sub-itself x
-label_if-below false x = sub-nil x
+list_if-below : (b : Bool) (x : Join) → Sub (list_if b x) x
+list_if-below true x = sub-itself x
+list_if-below false x = sub-nil x
 
 -- a label that counts under a test, in place of what lies within it
-swapped-below : (b : Bool) (v r r' : Join) → Sub r' r → Sub (if b then v else r') (r ++ label_if b v)
+swapped-below : (b : Bool) (v r r' : Join) → Sub r' r → Sub (if b then v else r') (r ++ list_if b v)
 swapped-below true v r r' f = sub-right r v
 swapped-below false v r r' f = sub-first r' r [] f
 
-swapped-all : (b : Bool) (v r r' : Join) → Sub r v → Sub r r' → Sub (r ++ label_if b v) (if b then v else r')
+swapped-all : (b : Bool) (v r r' : Join) → Sub r v → Sub r r' → Sub (r ++ list_if b v) (if b then v else r')
 swapped-all true v r r' f g = sub-both r v v f (sub-itself v)
 swapped-all false v r r' f g = sub-both r [] r' g (sub-nil r')
 
@@ -64,26 +64,26 @@ module _ (scope : Scope) where
   raise-value (Read x) = sub-nil (variable_label scope x)
   raise-value (Element array length index) =
       let v : Join = value_label scope index in
-      sub-both (raise_label scope index) (label_if (index_can_raise index length) v) (variable_label scope array ++ v)
+      sub-both (raise_label scope index) (list_if (index_can_raise index length) v) (variable_label scope array ++ v)
       (sub-second (raise_label scope index) (variable_label scope array) v (raise-value index))
-      (sub-second (label_if (index_can_raise index length) v) (variable_label scope array) v (label_if-below (index_can_raise index length) v))
+      (sub-second (list_if (index_can_raise index length) v) (variable_label scope array) v (list_if-below (index_can_raise index length) v))
   raise-value (Unary prefix e) = raise-value e
   raise-value (Binary operator d e) =
       let u : Join = value_label scope d in
       let v : Join = value_label scope e in
-      let last : Join = label_if (is_division operator && divisor_can_raise e) v in
+      let last : Join = list_if (is_division operator && divisor_can_raise e) v in
       sub-both (raise_label scope d ++ raise_label scope e) last (u ++ v)
       (sub-both (raise_label scope d) (raise_label scope e) (u ++ v)
       (sub-first (raise_label scope d) u v (raise-value d)) (sub-second (raise_label scope e) u v (raise-value e)))
-      (sub-second last u v (label_if-below (is_division operator && divisor_can_raise e) v))
+      (sub-second last u v (list_if-below (is_division operator && divisor_can_raise e) v))
   raise-value (Short connective d e) =
       let u : Join = value_label scope d in
       let v : Join = value_label scope e in
-      let last : Join = label_if (any_of (raises e)) u in
+      let last : Join = list_if (any_of (raises e)) u in
       sub-both (raise_label scope d ++ raise_label scope e) last (u ++ v)
       (sub-both (raise_label scope d) (raise_label scope e) (u ++ v)
       (sub-first (raise_label scope d) u v (raise-value d)) (sub-second (raise_label scope e) u v (raise-value e)))
-      (sub-first last u v (label_if-below (any_of (raises e)) u))
+      (sub-first last u v (list_if-below (any_of (raises e)) u))
 
   pub atoms-below : (e : Expression) → Sub (raise_atoms scope e) (raise_label scope e)
   atoms-below (Integer n) = sub-nil []
@@ -99,9 +99,9 @@ module _ (scope : Scope) where
       let v : Join = value_label scope e in
       let own : Join = if b then v else raise_atoms scope e in
       λ a h. ⊎_elim
-      (λ t. sub-left (r ++ s) (label_if b v) a (sub-left r s a (atoms-below d a t)))
-      (λ t. ⊎_elim (λ i. sub-left (r ++ s) (label_if b v) a (sub-right r s a i)) (λ i. sub-right (r ++ s) (label_if b v) a i)
-      (Contains-append_cases s (label_if b v) a (swapped-below b v s (raise_atoms scope e) (atoms-below e) a t)))
+      (λ t. sub-left (r ++ s) (list_if b v) a (sub-left r s a (atoms-below d a t)))
+      (λ t. ⊎_elim (λ i. sub-left (r ++ s) (list_if b v) a (sub-right r s a i)) (λ i. sub-right (r ++ s) (list_if b v) a i)
+      (Contains-append_cases s (list_if b v) a (swapped-below b v s (raise_atoms scope e) (atoms-below e) a t)))
       (Contains-append_cases (raise_atoms scope d) own a h)
   atoms-below (Short connective d e) =
       let b : Bool = any_of (raises e) in
@@ -110,9 +110,9 @@ module _ (scope : Scope) where
       let u : Join = value_label scope d in
       let own : Join = if b then u else raise_atoms scope d in
       λ a h. ⊎_elim
-      (λ t. sub-left (r ++ s) (label_if b u) a (sub-right r s a (atoms-below e a t)))
-      (λ t. ⊎_elim (λ i. sub-left (r ++ s) (label_if b u) a (sub-left r s a i)) (λ i. sub-right (r ++ s) (label_if b u) a i)
-      (Contains-append_cases r (label_if b u) a (swapped-below b u r (raise_atoms scope d) (atoms-below d) a t)))
+      (λ t. sub-left (r ++ s) (list_if b u) a (sub-right r s a (atoms-below e a t)))
+      (λ t. ⊎_elim (λ i. sub-left (r ++ s) (list_if b u) a (sub-left r s a i)) (λ i. sub-right (r ++ s) (list_if b u) a i)
+      (Contains-append_cases r (list_if b u) a (swapped-below b u r (raise_atoms scope d) (atoms-below d) a t)))
       (Contains-append_cases (raise_atoms scope e) own a h)
 
   pub atoms-all : (e : Expression) → Sub (raise_label scope e) (raise_atoms scope e)
@@ -128,24 +128,24 @@ module _ (scope : Scope) where
       let s : Join = raise_label scope e in
       let v : Join = value_label scope e in
       let own : Join = if b then v else raise_atoms scope e in
-      let within : Sub (s ++ label_if b v) own = swapped-all b v s (raise_atoms scope e) (raise-value e) (atoms-all e) in
+      let within : Sub (s ++ list_if b v) own = swapped-all b v s (raise_atoms scope e) (raise-value e) (atoms-all e) in
       λ a h. ⊎_elim
-      (λ t. ⊎_elim (λ i. sub-left (raise_atoms scope d) own a (atoms-all d a i)) (λ i. sub-right (raise_atoms scope d) own a (within a (sub-left s (label_if b v) a i)))
+      (λ t. ⊎_elim (λ i. sub-left (raise_atoms scope d) own a (atoms-all d a i)) (λ i. sub-right (raise_atoms scope d) own a (within a (sub-left s (list_if b v) a i)))
       (Contains-append_cases r s a t))
-      (λ t. sub-right (raise_atoms scope d) own a (within a (sub-right s (label_if b v) a t)))
-      (Contains-append_cases (r ++ s) (label_if b v) a h)
+      (λ t. sub-right (raise_atoms scope d) own a (within a (sub-right s (list_if b v) a t)))
+      (Contains-append_cases (r ++ s) (list_if b v) a h)
   atoms-all (Short connective d e) =
       let b : Bool = any_of (raises e) in
       let r : Join = raise_label scope d in
       let s : Join = raise_label scope e in
       let u : Join = value_label scope d in
       let own : Join = if b then u else raise_atoms scope d in
-      let within : Sub (r ++ label_if b u) own = swapped-all b u r (raise_atoms scope d) (raise-value d) (atoms-all d) in
+      let within : Sub (r ++ list_if b u) own = swapped-all b u r (raise_atoms scope d) (raise-value d) (atoms-all d) in
       λ a h. ⊎_elim
-      (λ t. ⊎_elim (λ i. sub-right (raise_atoms scope e) own a (within a (sub-left r (label_if b u) a i))) (λ i. sub-left (raise_atoms scope e) own a (atoms-all e a i))
+      (λ t. ⊎_elim (λ i. sub-right (raise_atoms scope e) own a (within a (sub-left r (list_if b u) a i))) (λ i. sub-left (raise_atoms scope e) own a (atoms-all e a i))
       (Contains-append_cases r s a t))
-      (λ t. sub-right (raise_atoms scope e) own a (within a (sub-right r (label_if b u) a t)))
-      (Contains-append_cases (r ++ s) (label_if b u) a h)
+      (λ t. sub-right (raise_atoms scope e) own a (within a (sub-right r (list_if b u) a t)))
+      (Contains-append_cases (r ++ s) (list_if b u) a h)
 
   -- what is gathered of a statement's own expressions, after pc, and what the rules say
   pub alike-raise : (pc : Join) (e : Expression) → Alike (pc ++ raise_atoms scope e) (pc ++ raise_label scope e)
@@ -186,13 +186,13 @@ module _ (scope : Scope) where
   -- a store
   abbrev pub store_label : Join → (length : ℕ) → (index e : Expression) → Join
   store_label pc length index e =
-      ((pc ++ raise_label scope index) ++ raise_label scope e) ++ label_if (index_can_raise index length) (value_label scope index)
+      ((pc ++ raise_label scope index) ++ raise_label scope e) ++ list_if (index_can_raise index length) (value_label scope index)
 
   pub alike-store : (pc : Join) (length : ℕ) (index e : Expression) → Alike (pc ++ store_atoms scope length index e) (store_label pc length index e)
   alike-store pc length index e =
       let b : Bool = index_can_raise index length in
       let v : Join = value_label scope index in
-      let c : Join = label_if b v in
+      let c : Join = list_if b v in
       let r : Join = raise_label scope index in
       let s : Join = raise_label scope e in
       let access : Join = if b then v else raise_atoms scope index in
@@ -217,7 +217,7 @@ module _ (scope : Scope) where
       let b : Bool = index_can_raise index length in
       let v : Join = value_label scope index in
       let w : Join = value_label scope e in
-      let c : Join = label_if b v in
+      let c : Join = list_if b v in
       let r : Join = raise_label scope index in
       let s : Join = raise_label scope e in
       let own : Join = ((pc ++ r) ++ s) ++ c in
@@ -231,7 +231,7 @@ module _ (scope : Scope) where
             (sub-both own v whole
             (sub-both ((pc ++ r) ++ s) c whole
             (sub-both (pc ++ r) s whole (sub-both pc r whole (sub-left pc (v ++ w)) (λ a h. in_v a (raise-value index a h))) (λ a h. in_w a (raise-value e a h)))
-            (λ a h. in_v a (label_if-below b v a h)))
+            (λ a h. in_v a (list_if-below b v a h)))
             in_v)
             in_w,
       )
@@ -239,7 +239,7 @@ module _ (scope : Scope) where
 -- ---- calls
 pub alike-call : (program : Program) (callee : ℕ) (j : Join) (e : Exit) → Alike (j ++ call_atoms program callee e) (call_exit_labels program callee j e)
 alike-call program callee j Normal =
-    let x : Join = label_if (any_of (procedure_at program callee).throws) (one (label_of program (ToEnd callee))) in (sub-itself (j ++ x), sub-itself (j ++ x))
+    let x : Join = list_if (any_of (procedure_at program callee).throws) (one (label_of program (ToEnd callee))) in (sub-itself (j ++ x), sub-itself (j ++ x))
 alike-call program callee j Return = (sub-both j [] j (sub-itself j) (sub-nil j), sub-left j [])
 alike-call program callee j Break = (sub-both j [] j (sub-itself j) (sub-nil j), sub-left j [])
 alike-call program callee j Continue = (sub-both j [] j (sub-itself j) (sub-nil j), sub-left j [])

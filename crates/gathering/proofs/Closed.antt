@@ -14,8 +14,9 @@ use Rattle.resolved.specs.declared.target.Target.TheVariants.{ToVariable, ToChan
 use Rattle.resolved.specs.Tree.{Expression, Statement, Assign, Clear, Store, Receive, Send, Call, If, While, Leave, ReturnWith, Try, Nested, Block, Empty, Then, Handlers, NoMore, Catch}
 use Rattle.resolved.specs.Program.{Program, procedure_at}
 use Rattle.common.specs.declared.exceptions.TheConstants.{END}
-use Rattle.resolved.specs.Exits.{same_exit, has_exit, one_exit, index_raises, raises, thrown_exits, declared_by, leaves_loop, handles, passes, statement_exits, block_exits, handlers_exits}
-use Rattle.resolved.specs.Labelled.{Scope, Join, LabelAtom, one, label_of, value_label, raise_label, label_if, call_exit_labels, ExitLabels, at_exits, raised_exit_labels, loop_exit_labels, statement_rule, block_rule, handlers_rule, statement_exit_labels, block_exit_labels}
+use Rattle.resolved.specs.Exits.{same_exit, has_exit, one_exit, index_raises, raises, thrown_exits, declared_by, leaves_loop, handles, passes, statement_exits, block_exits, handlers_exits, list_if}
+use Rattle.resolved.specs.Labelled.{Scope, Join, LabelAtom, one, label_of, value_label, raise_label, call_exit_labels, ExitLabels}
+use Rattle.resolved.specs.LabelRules.{at_exits, raised_exit_labels, loop_exit_labels, statement_rule, block_rule, handlers_rule, statement_exit_labels, block_exit_labels}
 use Rattle.gathering.specs.Names.{Real, Inner, NamedAtom, NamedConstraint, named_atoms}
 use Rattle.gathering.specs.Walk.{inner_atom, rule_constraint, target_constraint, inner_constraint, ExitUnknowns, with_normal, in_loop, handler_count, handler_number, in_try, flow, flows, raised_once, raised_flows, single, within_single, by_exits, onward_pc, raise_atoms, raise_atoms_all, store_atoms, call_atoms, made_by_statement, made_by_block, argument_constraints, call_flows, call_exits, call_constraints, statement_constraints, block_constraints, handlers_constraints}
 use Rattle.gathering.proofs.Exits.{has-left, has-right, has-filter, then-rest, normal_or_other, exits-single, exits-many, taken_or_passed, in_try-taken, AmongTwo, same-thrown, raises-two, store-two, once-same, call-same}
@@ -27,7 +28,7 @@ use Rattle.resolved.proofs.Exits.{same_exit-itself, then-other}
 pub then-exits : (scope : Scope) (pc : Join) (s : Statement) (rest : Block) (e : Exit) → same_exit Normal e ≡ false →
     Sub (statement_exit_labels scope pc s e) (block_rule scope pc (Then s rest) e)
 then-exits scope pc s rest e other a h =
-    Contains-append_left (label_if (not (same_exit Normal e)) (statement_exit_labels scope pc s e)) (block_rule scope (statement_exit_labels scope pc s Normal) rest e) a (rw other h)
+    Contains-append_left (list_if (not (same_exit Normal e)) (statement_exit_labels scope pc s e)) (block_rule scope (statement_exit_labels scope pc s Normal) rest e) a (rw other h)
 
 -- ---- closed: what flows to an inner unknown is part of what it stands for
 module _ (m : ℕ → Join) where
@@ -215,13 +216,13 @@ module _ (m : ℕ → Join) where
 
     -- what the exit unknowns of a try's block stand for
     pub in_block : (ends others : List Exit) (handlers : Handlers) (number : ℕ → ℕ) (exit_unknowns : ExitUnknowns) (x rest : ExitLabels) → ((y : ℕ) → handles handlers y ≡ true → m (number y) ≡ x (Throw y)) →
-        Take (filter (passes handlers) ends ++ others) exit_unknowns (λ y. label_if (passes handlers y) (x y) ++ rest y) → Take ends (in_try number handlers exit_unknowns) x
+        Take (filter (passes handlers) ends ++ others) exit_unknowns (λ y. list_if (passes handlers y) (x y) ++ rest y) → Take ends (in_try number handlers exit_unknowns) x
     in_block ends others handlers number exit_unknowns x rest named take e k h is a there = ⊎_elim
         (λ taken. let to : Some (number taken.0) ≡ Some k = sym (in_try-taken number handlers exit_unknowns taken.0 taken.2) ∙ ap (in_try number handlers exit_unknowns) taken.1 ∙ is in
         let same : number taken.0 ≡ k = cc in
         subst (λ z. Contains (m z) a) same (sub-same (x (Throw taken.0)) (m (number taken.0)) (sym (named taken.0 taken.2)) a (subst (λ z. Contains (x z) a) (sym taken.1) there)))
         (λ passed. take e k (has-left (filter (passes handlers) ends) others e (has-filter (passes handlers) ends e passed.0 h)) (sym passed.1 ∙ is) a
-        (sub-left (label_if (passes handlers e) (x e)) (rest e) a (sub-same (x e) (label_if (passes handlers e) (x e)) (rw passed.0 refl) a there)))
+        (sub-left (list_if (passes handlers e) (x e)) (rest e) a (sub-same (x e) (list_if (passes handlers e) (x e)) (rw passed.0 refl) a there)))
         (taken_or_passed number handlers exit_unknowns e)
 
     -- a statement with one demand, and its exits
@@ -374,7 +375,7 @@ module _ (m : ℕ → Join) where
           (λ t fit. closed-statements block true p pc t (n + handler_count handlers) part.0 agrees.1 below fit))
           (closed-handlers handlers number x exit_unknowns ((n + handler_count handlers) + made_by_block block) part.1 agrees.2 agrees.0 (λ y k h is a i.
           take y k (has-right (filter (passes handlers) ends) (handlers_exits scope.program handlers) y h) is a
-          (sub-right (label_if (passes handlers y) (x y)) (handlers_rule scope x handlers y) a i)))
+          (sub-right (list_if (passes handlers y) (x y)) (handlers_rule scope x handlers y) a i)))
       closed-statement (Nested at block) p pc exit_unknowns n part agrees below take =
           closed-block (block_exits scope.program block) p exit_unknowns pc (block_rule scope pc block) (λ t. block_constraints scope true p t n block) below take
           (λ t fit. closed-statements block true p pc t n part agrees below fit)
@@ -402,7 +403,7 @@ module _ (m : ℕ → Join) where
           (λ h. closed-statements rest (has_exit ends Normal) named_pc (x Normal) exit_unknowns (suc n + made_by_statement s) part.2 agrees.2
           (onward-below (one_exit ends) ends p n pc (statement_rule scope pc s) h refl agrees.0 below)
           (λ e k there is a i. take e k (then-rest ends (block_exits scope.program rest) e h there) is a
-          (sub-right (label_if (not (same_exit Normal e)) (x e)) (block_rule scope (x Normal) rest e) a i)))
+          (sub-right (list_if (not (same_exit Normal e)) (x e)) (block_rule scope (x Normal) rest e) a i)))
           (λ h. subst (λ b. Closed (block_constraints scope b named_pc exit_unknowns (suc n + made_by_statement s) rest)) (sym h)
           (closed-unreached s rest named_pc exit_unknowns (suc n + made_by_statement s) part.1 h))))
 

@@ -11,8 +11,9 @@ use Rattle.resolved.specs.declared.statement.Exit.TheVariants.{Normal, Return, B
 use Rattle.resolved.specs.Tree.{Expression, Integer, Logical, Read, Element, Unary, Binary, Short, Handlers}
 use Rattle.resolved.specs.Program.{Program, procedure_at}
 use Rattle.common.specs.declared.exceptions.TheConstants.{ARITH, BOUNDS}
-use Rattle.resolved.specs.Exits.{same_exit, has_exit, one_exit, is_division, divisor_can_raise, index_can_raise, index_raises, operator_raises, raises, thrown_exits, declared_by, then_exits, handles, passes}
-use Rattle.resolved.specs.Labelled.{Join, ExitLabels, at_exits}
+use Rattle.resolved.specs.Exits.{same_exit, has_exit, one_exit, is_division, divisor_can_raise, index_can_raise, index_raises, operator_raises, raises, thrown_exits, declared_by, then_exits, handles, passes, list_if}
+use Rattle.resolved.specs.Labelled.{Join, ExitLabels}
+use Rattle.resolved.specs.LabelRules.{at_exits}
 use Rattle.gathering.specs.Walk.{ExitUnknowns, with_normal, in_try, raised_once, call_exits}
 use Rattle.common.proofs.Cases.{by_test}
 use Rattle.resolved.proofs.Exits.{same-exit, thrown-normal, thrown-break, thrown-continue}
@@ -128,7 +129,7 @@ among-index index length = go (index_can_raise index length)
 among-operator : (operator : Operator) (e : Expression) → AmongTwo (operator_raises operator e)
 among-operator operator e = go (is_division operator) (divisor_can_raise e)
   where
-    go : (b c : Bool) → AmongTwo (if b then (if c then ARITH ∷ [] else []) else [])
+    go : (b c : Bool) → AmongTwo (list_if (b && c) (ARITH ∷ []))
     go true true = among-arith
     go true false = among-nil
     go false c = among-nil

@@ -8,16 +8,17 @@ use Rattle.resolved.specs.declared.statement.Exit.{Exit}
 use Rattle.resolved.specs.declared.statement.Exit.TheVariants.{Normal, Throw}
 use Rattle.resolved.specs.Tree.{Statement, Assign, Clear, Store, Receive, Send, Call, If, While, Leave, ReturnWith, Try, Nested, Block, Empty, Then, Handlers, NoMore, Catch}
 use Rattle.resolved.specs.Program.{Program, ProcedureEntry}
-use Rattle.resolved.specs.Exits.{same_exit, has_exit, statement_exits, block_exits}
-use Rattle.resolved.specs.ExitFaults.{fault_unless, block_faults, handlers_faults, procedure_faults, exit_faults}
+use Rattle.resolved.specs.Exits.{same_exit, has_exit, statement_exits, block_exits, fault_unless}
+use Rattle.resolved.specs.ExitFaults.{block_faults, handlers_faults, procedure_faults}
 use Rattle.resolved.specs.declared.fault.ExitRefusalKind.TheVariants.{OutsideLoop, Unreachable, NeverRaised, NoValueReturned, Undeclared}
 use Rattle.common.specs.declared.refusal.RefusalAt.{RefusalAt}
 use Rattle.resolved.specs.declared.fault.ExitRefusalKind.{ExitRefusalKind}
-use Rattle.resolved.specs.Labelled.{program_demands}
+use Rattle.resolved.specs.Labelled.{program_demands, exit_faults}
 use Rattle.gathering.specs.Walk.{program_constraints}
 use Rattle.gathering.proofs.Reached.{Goes, Part, PartIn, PartBy}
 use Rattle.gathering.proofs.Programs.{PartsFrom, Gathers, gathered_by, all-gathers}
 use Rattle.resolved.proofs.Exits.{no_fault-test, faults-in_parts}
+use Rattle.resolved.proofs.Judged.{faults-apart}
 
 none-left : (xs ys : List (RefusalAt ExitRefusalKind)) → (xs ++ ys) ≡ [] → xs ≡ []
 none-left [] ys e = refl
@@ -102,7 +103,7 @@ each-part program absent part (p ∷ ps) none (suc f) =
 
 pub faultless-parts : (program : Program) → exit_faults program ≡ [] → (f : ℕ) (ps : List ProcedureEntry) → PartsFrom program f ps
 faultless-parts program none f [] = tt
-faultless-parts program none f (p ∷ ps) = (each-part program _ tt program.procedures none f, faultless-parts program none (suc f) ps)
+faultless-parts program none f (p ∷ ps) = (each-part program _ tt program.procedures (sym (faults-apart program) ∙ none) f, faultless-parts program none (suc f) ps)
 
 -- so a program without a fault of its exits is gathered
 pub faultless-gathers : (program : Program) → exit_faults program ≡ [] → Gathers program

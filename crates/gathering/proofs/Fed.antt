@@ -13,8 +13,9 @@ use Rattle.resolved.specs.declared.target.Target.TheVariants.{ToVariable, ToChan
 use Rattle.resolved.specs.Tree.{Expression, Statement, Assign, Clear, Store, Receive, Send, Call, If, While, Leave, ReturnWith, Try, Nested, Block, Empty, Then, Handlers, NoMore, Catch}
 use Rattle.resolved.specs.Program.{Program}
 use Rattle.common.specs.declared.exceptions.TheConstants.{END}
-use Rattle.resolved.specs.Exits.{same_exit, has_exit, one_exit, index_raises, raises, thrown_exits, handles, passes, statement_exits, block_exits}
-use Rattle.resolved.specs.Labelled.{Scope, Join, LabelAtom, one, label_of, value_label, raise_label, label_if, call_exit_labels, ExitLabels, at_exits, raised_exit_labels, loop_exit_labels, statement_rule, block_rule, handlers_rule, statement_exit_labels, block_exit_labels}
+use Rattle.resolved.specs.Exits.{same_exit, has_exit, one_exit, index_raises, raises, thrown_exits, handles, passes, statement_exits, block_exits, list_if}
+use Rattle.resolved.specs.Labelled.{Scope, Join, LabelAtom, one, label_of, value_label, raise_label, call_exit_labels, ExitLabels}
+use Rattle.resolved.specs.LabelRules.{at_exits, raised_exit_labels, loop_exit_labels, statement_rule, block_rule, handlers_rule, statement_exit_labels, block_exit_labels}
 use Rattle.gathering.specs.Names.{Real, Inner, is_inner_name, NamedAtom, NamedConstraint, named_atoms}
 use Rattle.gathering.specs.Walk.{inner_atom, rule_constraint, target_constraint, inner_constraint, ExitUnknowns, with_normal, in_loop, handler_count, handler_number, in_try, flow, flows, raised_once, raised_flows, single, within_single, by_exits, onward_pc, raise_atoms, raise_atoms_all, store_atoms, call_atoms, made_by_statement, made_by_block, argument_constraints, call_flows, call_exits, call_constraints, statement_constraints, block_constraints, handlers_constraints}
 use Rattle.gathering.proofs.Exits.{normal_or_other, exits-single, exits-many, exits-none, taken_or_passed, in_try-taken, single-end, AmongTwo, same-thrown, raises-two, store-two, once-same, call-same}
@@ -23,9 +24,9 @@ use Rattle.gathering.proofs.Reached.{Part, PartIn, PartBy}
 use Rattle.common.proofs.Cases.{by_test}
 use Rattle.resolved.proofs.Exits.{same-exit}
 
-label_if-none : (b : Bool) → Sub (label_if b []) []
-label_if-none true a h = h
-label_if-none false a h = h
+list_if-none : (b : Bool) → Sub (list_if b []) []
+list_if-none true a h = h
+list_if-none false a h = h
 
 pub outer_atom : (a : LabelAtom) → IsFalse (is_inner is_inner_name (renamed Real a))
 outer_atom (Written v) = refl
@@ -167,14 +168,14 @@ module _ (cs : List NamedConstraint) where
     loop-fed b x n exit_unknowns fed each (Throw y) k is a there = each (Throw y) k is a there
 
     -- what goes past the handlers is given to its exit unknown
-    pub past : (handlers : Handlers) (number : ℕ → ℕ) (exit_unknowns : ExitUnknowns) (x : ExitLabels) → GivesAll (in_try number handlers exit_unknowns) x → GivesAll exit_unknowns (λ y. label_if (passes handlers y) (x y))
+    pub past : (handlers : Handlers) (number : ℕ → ℕ) (exit_unknowns : ExitUnknowns) (x : ExitLabels) → GivesAll (in_try number handlers exit_unknowns) x → GivesAll exit_unknowns (λ y. list_if (passes handlers y) (x y))
     past handlers number exit_unknowns x gives e k is a there = ⊎_elim
-        (λ taken. absurd (none_in_nil a (sub-same (label_if (passes handlers e) (x e)) []
-        (subst (λ z. label_if (passes handlers z) (x z) ≡ []) taken.1 (not_past taken.0 taken.2)) a there)))
-        (λ passed. gives e k (passed.1 ∙ is) a (sub-same (label_if (passes handlers e) (x e)) (x e) (rw passed.0 refl) a there))
+        (λ taken. absurd (none_in_nil a (sub-same (list_if (passes handlers e) (x e)) []
+        (subst (λ z. list_if (passes handlers z) (x z) ≡ []) taken.1 (not_past taken.0 taken.2)) a there)))
+        (λ passed. gives e k (passed.1 ∙ is) a (sub-same (list_if (passes handlers e) (x e)) (x e) (rw passed.0 refl) a there))
         (taken_or_passed number handlers exit_unknowns e)
       where
-        not_past : (z : ℕ) → handles handlers z ≡ true → label_if (passes handlers (Throw z)) (x (Throw z)) ≡ []
+        not_past : (z : ℕ) → handles handlers z ≡ true → list_if (passes handlers (Throw z)) (x (Throw z)) ≡ []
         not_past z h = rw h refl
 
     pub fed-call : (at callee : ℕ) (arguments : List Expression) (target : Option Variable) (p : NamedAtom) (pc : Join) (exit_unknowns : ExitUnknowns) (n : ℕ) → Fed (p ∷ []) pc →
@@ -306,7 +307,7 @@ module _ (cs : List NamedConstraint) where
           (λ t. past handlers number exit_unknowns x gives y k is a t)
           (λ t. fed-handlers handlers number x exit_unknowns ((n + handler_count handlers) + made_by_block block) part.1
           (λ z h. gives (Throw z) (number z) (in_try-taken number handlers exit_unknowns z h)) (within-right first second within) y k is a t)
-          (Contains-append_cases (label_if (passes handlers y) (x y)) (handlers_rule scope x handlers y) a there)
+          (Contains-append_cases (list_if (passes handlers y) (x y)) (handlers_rule scope x handlers y) a there)
       fed-statement (Nested at block) p pc exit_unknowns n part fed within y k has is =
           fed-block (block_exits scope.program block) p exit_unknowns pc (block_rule scope pc block) (λ t. block_constraints scope true p t n block) within fed
           (λ t w. fed-statements block true p pc t n part (λ i. absurd (cc)) fed w) y k is
@@ -314,10 +315,10 @@ module _ (cs : List NamedConstraint) where
       pub fed-statements : (block : Block) (reached : Bool) (p : NamedAtom) (pc : Join) (exit_unknowns : ExitUnknowns) (n : ℕ) → PartIn scope.program block → (reached ≡ false → pc ≡ []) → Fed (p ∷ []) pc →
           Within (block_constraints scope reached p exit_unknowns n block) → GivesAll exit_unknowns (block_rule scope pc block)
       fed-statements Empty true p pc exit_unknowns n part none fed within y k is a there =
-          ⊎_elim (λ same. fed-flow (p ∷ []) (exit_unknowns Normal) pc within fed k (ap exit_unknowns same ∙ is) a (subst (λ z. Contains (label_if (same_exit Normal z) pc) a) (sym same) there))
-          (λ other. absurd (none_in_nil a (sub-same (label_if (same_exit Normal y) pc) [] (rw other.0 refl) a there))) (normal_or_other y)
+          ⊎_elim (λ same. fed-flow (p ∷ []) (exit_unknowns Normal) pc within fed k (ap exit_unknowns same ∙ is) a (subst (λ z. Contains (list_if (same_exit Normal z) pc) a) (sym same) there))
+          (λ other. absurd (none_in_nil a (sub-same (list_if (same_exit Normal y) pc) [] (rw other.0 refl) a there))) (normal_or_other y)
       fed-statements Empty false p pc exit_unknowns n part none fed within y k is a there =
-          absurd (none_in_nil a (label_if-none (same_exit Normal y) a (subst (λ z. Contains (label_if (same_exit Normal y) z) a) (none refl) there)))
+          absurd (none_in_nil a (list_if-none (same_exit Normal y) a (subst (λ z. Contains (list_if (same_exit Normal y) z) a) (none refl) there)))
       fed-statements (Then s rest) reached p pc exit_unknowns n part none fed within y k is a there =
           let ends : List Exit = statement_exits scope.program s in
           let exits : ExitLabels = statement_rule scope pc s in
@@ -331,13 +332,13 @@ module _ (cs : List NamedConstraint) where
           fed-statement s p pc (within_single (one_exit ends) (with_normal (Some n) exit_unknowns)) (suc n) part.0 fed (within-left second third after) in
           ⊎_elim
           (λ t. ⊎_elim
-          (λ same. absurd (none_in_nil a (sub-same (label_if (not (same_exit Normal y)) (x y)) [] (ap (λ z. label_if (not (same_exit Normal z)) (x z)) (sym same)) a t)))
+          (λ same. absurd (none_in_nil a (sub-same (list_if (not (same_exit Normal y)) (x y)) [] (ap (λ z. list_if (not (same_exit Normal z)) (x z)) (sym same)) a t)))
           (λ other. fed-ends (one_exit ends) ends p (with_normal None exit_unknowns) (with_normal (Some n) exit_unknowns) pc exits refl (within-left first (second ++ third) within) fed gives y k
-          (other.1 None exit_unknowns ∙ is) (other.1 (Some n) exit_unknowns ∙ is) a (sub-same (label_if (not (same_exit Normal y)) (x y)) (x y) (rw other.0 refl) a t))
+          (other.1 None exit_unknowns ∙ is) (other.1 (Some n) exit_unknowns ∙ is) a (sub-same (list_if (not (same_exit Normal y)) (x y)) (x y) (rw other.0 refl) a t))
           (normal_or_other y))
           (λ t. fed-statements rest (has_exit ends Normal) named_pc (x Normal) exit_unknowns (suc n + made_by_statement s) part.2 (λ h. exits-none ends pc exits Normal h)
           (fed-onward (has_exit ends Normal) (one_exit ends) ends p n exit_unknowns pc exits refl refl fed gives) (within-right second third after) y k is a t)
-          (Contains-append_cases (label_if (not (same_exit Normal y)) (x y)) (block_rule scope (x Normal) rest y) a there)
+          (Contains-append_cases (list_if (not (same_exit Normal y)) (x y)) (block_rule scope (x Normal) rest y) a there)
 
       pub fed-handlers : (handlers : Handlers) (number : ℕ → ℕ) (x : ExitLabels) (exit_unknowns : ExitUnknowns) (n : ℕ) → PartBy scope.program handlers →
           ((z : ℕ) → handles handlers z ≡ true → FedTo (number z) (x (Throw z))) → Within (handlers_constraints scope number exit_unknowns n handlers) →

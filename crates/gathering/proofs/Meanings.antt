@@ -5,7 +5,8 @@ use Rattle.resolved.specs.declared.statement.Exit.TheVariants.{Normal, Continue,
 use Rattle.resolved.specs.declared.target.Target.TheVariants.{ToLoop}
 use Rattle.resolved.specs.Tree.{Statement, Assign, Clear, Store, Receive, Send, Call, If, While, Leave, ReturnWith, Try, Nested, Block, Empty, Then, Handlers, NoMore, Catch}
 use Rattle.resolved.specs.Exits.{handles}
-use Rattle.resolved.specs.Labelled.{Scope, Join, one, label_of, value_label, raise_label, ExitLabels, statement_exit_labels, block_exit_labels}
+use Rattle.resolved.specs.Labelled.{Scope, Join, one, label_of, value_label, raise_label, ExitLabels}
+use Rattle.resolved.specs.LabelRules.{statement_exit_labels, block_exit_labels}
 use Rattle.gathering.specs.Walk.{handler_count, handler_number, made_by_statement, made_by_block, made_by_handlers}
 use Rattle.gathering.proofs.Reached.{Agrees, AgreesIn, AgreesBy}
 

@@ -9,7 +9,9 @@ use Rattle.resolved.specs.declared.statement.Exit.TheVariants.{Normal, Return, B
 use Rattle.resolved.specs.declared.target.Target.TheVariants.{ToBegin, ToEnd, ToThrown}
 use Rattle.resolved.specs.Program.{Program, ProcedureEntry, ThrownEntry, procedure_at}
 use Rattle.resolved.specs.Exits.{one_exit}
-use Rattle.resolved.specs.Labelled.{Unwritten, OfLoop, Scope, here, Join, one, label_of, ExitLabels, block_rule, block_exit_labels, demand, block_demands, exit_demands, procedure_demands, demands_from, program_demands}
+use Rattle.resolved.specs.Labelled.{Unwritten, OfLoop, Scope, here, Join, one, label_of, ExitLabels, demand, exit_demands, program_demands}
+use Rattle.resolved.specs.LabelRules.{block_rule, block_exit_labels, block_demands, procedure_demands, demands_from}
+use Rattle.resolved.proofs.Judged.{demands-apart}
 use Rattle.gathering.specs.Names.{Name, Real, Inner, is_inner_name, NamedAtom, NamedConstraint, real_unknowns}
 use Rattle.gathering.specs.Walk.{inner_atom, rule_constraint, ExitUnknowns, nowhere, single, within_single, inner_block, block_constraints, thrown_number, declares, at_end, body_exits, has_one_exit, end_exit_unknowns, thrown_constraints, exit_constraints, procedure_constraints, made_by_procedure, constraints_from, program_constraints}
 use Rattle.gathering.proofs.Atoms.{sub-same}
@@ -185,7 +187,8 @@ program-gathers program m parts agrees =
     let cs : List NamedConstraint = program_constraints program in
     let closed : Closed m cs = closed-from m program 0 (real_unknowns program) program.procedures parts agrees in
     record {
-      one_by_one = one-from m cs closed program 0 (real_unknowns program) program.procedures parts agrees (λ c h. h);
+      one_by_one = subst (λ demands. One cs demands cs) (sym (demands-apart program))
+          (one-from m cs closed program 0 (real_unknowns program) program.procedures parts agrees (λ c h. h));
       no_target = λ c h e. untargeted c c.right refl e (closed c h);
     }
   where

@@ -18,8 +18,8 @@ use Rattle.resolved.specs.declared.target.Target.TheVariants.{ToVariable, ToChan
 use Rattle.resolved.specs.Tree.{Expression, Integer, Logical, Read, Element, Unary, Binary, Short, Statement, Assign, Clear, Store, Receive, Send, Call, If, While, Leave, ReturnWith, Try, Nested, Block, Empty, Then, Handlers, NoMore, Catch}
 use Rattle.resolved.specs.Program.{Program, ProcedureEntry, SlotEntry, ThrownEntry, procedure_at, slot_at}
 use Rattle.common.specs.declared.exceptions.TheConstants.{END}
-use Rattle.resolved.specs.Exits.{has_exit, one_exit, index_can_raise, index_raises, handles, raises, thrown_exits, statement_exits, block_exits}
-use Rattle.resolved.specs.Labelled.{OfLocal, OfLoop, Scope, Join, LabelAtom, one, label_of, written_or, variable_label, value_label, label_if, any_of}
+use Rattle.resolved.specs.Exits.{has_exit, one_exit, index_can_raise, index_raises, handles, raises, thrown_exits, statement_exits, block_exits, list_if}
+use Rattle.resolved.specs.Labelled.{OfLocal, OfLoop, Scope, Join, LabelAtom, one, label_of, written_or, variable_label, value_label, any_of}
 use Rattle.resolved.specs.WellFormed.{VariableType, slot_type, variable_type, scalar_by, array_by, has_base, has_result, target_by, parameters_of, arguments_match, call_matches, is_array, same_base, prefix_base, operand_base, result_base, statement_fits, block_fits, handlers_fit, is_exception, statement_loops, block_loops, handlers_loops}
 use Rattle.resolved.proofs.WellFormedParts.{result_some}
 use Rattle.gathering.specs.Names.{Real, Inner, NamedAtom, NamedConstraint, named_atoms, real_unknowns, IsUnwrittenOf}
@@ -284,7 +284,7 @@ module _ (program : Program) (bound : ℕ) where
     pub call_atoms-ok : (callee : ℕ) (e : Exit) → JoinInRange (call_atoms program callee e)
     call_atoms-ok callee Normal = go (any_of (procedure_at program callee).throws)
       where
-        go : (b : Bool) → JoinInRange (label_if b (one (label_of program (ToEnd callee))))
+        go : (b : Bool) → JoinInRange (list_if b (one (label_of program (ToEnd callee))))
         go true = join-one (label_of program (ToEnd callee)) tt
         go false = join-nil
     call_atoms-ok callee Return = join-nil

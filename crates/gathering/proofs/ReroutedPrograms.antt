@@ -4,9 +4,8 @@ use Rattle.std.specs.Prelude.{IsTrue, ◌↔◌, nat_le}
 use Rattle.labels.specs.LabelLattice.{label_lattice}
 use Rattle.labels.proofs.FlowTests.{IsLattice-flows}
 use Rattle.lattices.proofs.Gathered.{fits-alike, fits-down, fits-up}
-use Rattle.resolved.specs.ExitFaults.{exit_faults}
 use Rattle.resolved.specs.Flow.{Gathered}
-use Rattle.resolved.specs.Labelled.{Labelling, FitsDemands, program_demands}
+use Rattle.resolved.specs.Labelled.{Labelling, FitsDemands, program_demands, exit_faults}
 use Rattle.resolved.specs.Program.{Program}
 use Rattle.resolved.specs.WellFormed.{well_formed}
 use Rattle.gathering.specs.Gathered.{AreConstraintsOf, FitsConstraints}

@@ -14,8 +14,8 @@ use Rattle.resolved.specs.declared.target.Target.TheVariants.{ToVariable, ToChan
 use Rattle.resolved.specs.Tree.{Expression, Integer, Logical, Read, Element, Unary, Binary, Short, Statement, Assign, Clear, Store, Receive, Send, Call, If, While, Leave, ReturnWith, Try, Nested, Block, Empty, Then, Handlers, NoMore, Catch}
 use Rattle.resolved.specs.Program.{Program, ProcedureEntry, ThrownEntry, procedure_at}
 use Rattle.common.specs.declared.exceptions.TheConstants.{ARITH, BOUNDS, END}
-use Rattle.resolved.specs.Exits.{has_exit, one_exit, index_can_raise, divisor_can_raise, is_division, index_raises, raises, thrown_exits, declared_by, statement_exits, block_exits}
-use Rattle.resolved.specs.Labelled.{Scope, here, Join, one, label_of, value_label, label_if, any_of}
+use Rattle.resolved.specs.Exits.{has_exit, one_exit, index_can_raise, divisor_can_raise, is_division, index_raises, raises, thrown_exits, declared_by, statement_exits, block_exits, list_if}
+use Rattle.resolved.specs.Labelled.{Scope, here, Join, one, label_of, value_label, any_of}
 use Rattle.resolved.specs.WellFormed.{expression_nodes, statement_nodes, block_nodes, handlers_nodes, procedure_nodes, program_nodes}
 use Rattle.resolved.proofs.WellFormedParts.{procedure_at_is}
 use Rattle.gathering.specs.Names.{Real, NamedAtom, NamedConstraint, named_atoms, numbered, real_unknowns}
@@ -145,7 +145,7 @@ module _ (scope : Scope) where
   call_atoms-length : (callee : ℕ) (e : Exit) → length (call_atoms scope.program callee e) ≤ 1
   call_atoms-length callee Normal = go (any_of (procedure_at scope.program callee).throws)
     where
-      go : (b : Bool) → length (label_if b (one (label_of scope.program (ToEnd callee)))) ≤ 1
+      go : (b : Bool) → length (list_if b (one (label_of scope.program (ToEnd callee)))) ≤ 1
       go true = omega arith
       go false = omega arith
   call_atoms-length callee Return = omega arith

@@ -15,7 +15,8 @@ use Rattle.resolved.specs.Tree.{Expression, Statement, Assign, Clear, Store, Rec
 use Rattle.resolved.specs.Program.{Program}
 use Rattle.common.specs.declared.exceptions.TheConstants.{END}
 use Rattle.resolved.specs.Exits.{has_exit, one_exit, index_raises, raises, thrown_exits, handles, statement_exits, block_exits}
-use Rattle.resolved.specs.Labelled.{Scope, Join, LabelAtom, one, label_of, value_label, raise_label, call_exit_labels, ExitLabels, statement_rule, block_rule, statement_exit_labels, block_exit_labels, argument_demands, Demand, demand, target_demand, statement_demands, block_demands, handlers_demands}
+use Rattle.resolved.specs.Labelled.{Scope, Join, LabelAtom, one, label_of, value_label, raise_label, call_exit_labels, ExitLabels, argument_demands, Demand, demand, target_demand}
+use Rattle.resolved.specs.LabelRules.{statement_rule, block_rule, statement_exit_labels, block_exit_labels, statement_demands, block_demands, handlers_demands}
 use Rattle.gathering.specs.Names.{Real, Inner, is_inner_name, NamedAtom, NamedConstraint, named_atoms}
 use Rattle.gathering.specs.Walk.{inner_atom, rule_constraint, target_constraint, inner_constraint, ExitUnknowns, with_normal, in_loop, handler_count, handler_number, in_try, flow, flows, raised_once, raised_flows, single, within_single, onward_pc, raise_atoms, raise_atoms_all, store_atoms, call_atoms, made_by_statement, made_by_block, argument_constraints, call_flows, call_exits, call_constraints, statement_constraints, block_constraints, handlers_constraints}
 use Rattle.gathering.proofs.Exits.{in_try-taken}

@@ -16,8 +16,8 @@ use Rattle.resolved.specs.declared.target.Target.TheVariants.{ToVariable, ToChan
 use Rattle.resolved.specs.Tree.{Expression, Integer, Logical, Read, Element, Unary, Binary, Short, Statement, Assign, Clear, Store, Receive, Send, Call, If, While, Leave, ReturnWith, Try, Nested, Block, Empty, Then, Handlers, NoMore, Catch}
 use Rattle.resolved.specs.Program.{Program, ProcedureEntry, ThrownEntry, procedure_at}
 use Rattle.common.specs.declared.exceptions.TheConstants.{ARITH, BOUNDS, END}
-use Rattle.resolved.specs.Exits.{has_exit, one_exit, index_can_raise, divisor_can_raise, is_division, index_raises, raises, thrown_exits, declared_by, handles, statement_exits, block_exits}
-use Rattle.resolved.specs.Labelled.{Labelling, Scope, here, Join, one, label_of, value_label, label_if, any_of, as_one_exit}
+use Rattle.resolved.specs.Exits.{has_exit, one_exit, index_can_raise, divisor_can_raise, is_division, index_raises, raises, thrown_exits, declared_by, handles, statement_exits, block_exits, list_if}
+use Rattle.resolved.specs.Labelled.{Labelling, Scope, here, Join, one, label_of, value_label, any_of, as_one_exit}
 use Rattle.resolved.specs.Flow.{Gathered}
 use Rattle.gathering.specs.Gathered.{FitsConstraints}
 use Rattle.gathering.specs.Names.{Inner, Real, NamedAtom, NamedConstraint, named_atoms, numbered, real_unknowns}
@@ -153,7 +153,7 @@ store_atoms scope length index e =
 
 -- what the exits of a call have beside its own label
 abbrev pub call_atoms : Program → (callee : ℕ) → Exit → Join
-call_atoms program callee Normal = label_if (any_of (procedure_at program callee).throws) (one (label_of program (ToEnd callee)))
+call_atoms program callee Normal = list_if (any_of (procedure_at program callee).throws) (one (label_of program (ToEnd callee)))
 call_atoms program callee Return = []
 call_atoms program callee Break = []
 call_atoms program callee Continue = []

@@ -14,17 +14,17 @@ use Rattle.resolved.specs.declared.statement.Exit.TheVariants.{Normal, Return, B
 use Rattle.resolved.specs.Program.{Program, ProcedureEntry, ThrownEntry, procedure_at}
 use Rattle.resolved.specs.SourceState.{SourceState, assigned, cells}
 use Rattle.resolved.specs.Meaning.{Stop, Outcome, Ended, Stopped, leaving, returned_to, state_after}
-use Rattle.resolved.specs.Exits.{same_exit, has_exit, one_exit, thrown_exits, declared_by}
+use Rattle.resolved.specs.Exits.{same_exit, has_exit, one_exit, thrown_exits, declared_by, list_if}
 use Rattle.resolved.specs.FaultParts.{may_exit}
 use Rattle.resolved.specs.declared.target.Target.TheVariants.{ToEnd, ToThrown}
-use Rattle.resolved.specs.Labelled.{Labelling, ExitLabels, Demand, demand, FitsDemands, label_if, any_of, one, label_of, join_under, Scope, here, as_one_exit, exit_demands, one}
+use Rattle.resolved.specs.Labelled.{Labelling, ExitLabels, Demand, demand, FitsDemands, any_of, one, label_of, join_under, Scope, here, as_one_exit, exit_demands, one}
 use Rattle.isolation.proofs.Grows.{Grows, grows-itself, grows-returned_to}
 use Rattle.isolation.proofs.Among.{Among, raised_in, thrown-is}
 use Rattle.isolation.proofs.Observer.{LabelReader, under, Reader, View, view_of, shown, AgreeFor, agree-back, agree-through, agree-unread, agree-with_cells, unread-left, unread-right}
 use Rattle.isolation.proofs.Unseen.{Hidden, hidden_exit, hidden_return, hidden_stop, Unseen}
 use Rattle.isolation.proofs.Related.{Related, agreed_exit, same_return, apart, first_stops, second_stops, both-unseen, stopped-prefix, agree-prefix}
 use Rattle.isolation.proofs.Closed.{read_exits, one-same}
-use Rattle.isolation.proofs.Confined.{UnseenCall, HiddenCall, call_exit, call_thrown, call_stop, unread_exits, unseen-returned_to, unread-label_if, fits-left, fits-right, unread-demand}
+use Rattle.isolation.proofs.Confined.{UnseenCall, HiddenCall, call_exit, call_thrown, call_stop, unread_exits, unseen-returned_to, unread-list_if, fits-left, fits-right, unread-demand}
 use Rattle.resolved.proofs.Exits.{same-exit, same_exit-itself, all-has, thrown-break, thrown-continue}
 
 -- two calls: they end in the same way, or the observer reads the label of neither exit; and what is seen of a stopped one is a prefix
@@ -94,7 +94,7 @@ related-returned_to view result value exits more (Some x) o p (second_call_stops
 
 -- what a procedure declares of its exits, for its callers
 abbrev pub declared_label : Program → (callee : ℕ) → ExitLabels
-declared_label program f Normal = label_if (any_of (procedure_at program f).throws) (one (label_of program (ToEnd f)))
+declared_label program f Normal = list_if (any_of (procedure_at program f).throws) (one (label_of program (ToEnd f)))
 declared_label program f (Throw exception) = one (label_of program (ToThrown f exception))
 declared_label program f Return = []
 declared_label program f Break = []
@@ -105,8 +105,8 @@ pub declared-under : {h : PrincipalHierarchy} (base : LabelReader h) (labels inn
     read_exits (under base inner) (declared_label program f) exit ≡ false → read_exits (under base labels) (declared_label program f) exit ≡ false
 declared-under base labels inner program f Normal m = go (any_of (procedure_at program f).throws) m
   where
-    go : (b : Bool) → base.reads (join_under inner (label_if b (one (label_of program (ToEnd f))))) ≡ false →
-        base.reads (join_under labels (label_if b (one (label_of program (ToEnd f))))) ≡ false
+    go : (b : Bool) → base.reads (join_under inner (list_if b (one (label_of program (ToEnd f))))) ≡ false →
+        base.reads (join_under labels (list_if b (one (label_of program (ToEnd f))))) ≡ false
     go true m = m
     go false m = m
 declared-under base labels inner program f Return m = m
@@ -277,7 +277,7 @@ module _ {h : PrincipalHierarchy} {labelling : Labelling} (reader : Reader h lab
       reader.reads (x Normal ++ x Return) ≡ false → reader.reads (declared_label scope.program scope.number Normal) ≡ false
   normal-unread more exit among unread =
       let front = fits-left h labelling (several scope x) (on_thrown scope x) (several-demands h labelling scope ends x more fits) in
-      unread-label_if reader (any_of (here scope).throws) (one (label_of scope.program (ToEnd scope.number))) (some-throws (here scope) ends exit declared among more)
+      unread-list_if reader (any_of (here scope).throws) (one (label_of scope.program (ToEnd scope.number))) (some-throws (here scope) ends exit declared among more)
       (unread-demand reader scope.program (here scope).at 13 (x Normal ++ x Return) (ToEnd scope.number) front unread)
 
   hidden-leaving : (o : Outcome) → one_exit (map as_one_exit ends) ≡ false → Among ends o → Hidden value (read_exits reader x) o →

@@ -8,7 +8,8 @@ use Rattle.resolved.specs.declared.statement.Exit.TheVariants.{Return}
 use Rattle.resolved.specs.SourceState.{SourceState}
 use Rattle.resolved.specs.Meaning.{Outcome, state_after}
 use Rattle.resolved.specs.Exits.{same_exit, has_exit, one_exit}
-use Rattle.resolved.specs.Labelled.{ExitLabels, at_exits, Labelling, Join, one}
+use Rattle.resolved.specs.Labelled.{ExitLabels, Labelling, Join, one}
+use Rattle.resolved.specs.LabelRules.{at_exits}
 use Rattle.isolation.proofs.Among.{Among}
 use Rattle.isolation.proofs.Observer.{Reader, View, AgreeFor, agree-back}
 use Rattle.isolation.proofs.Unseen.{Hidden, hidden_exit, hidden_return, hidden_stop, Unseen}

@@ -18,10 +18,11 @@ use Rattle.resolved.specs.Program.{Program, ProcedureEntry, procedure_at}
 use Rattle.resolved.specs.Value.{Raises, truth_in, checked_index}
 use Rattle.resolved.specs.SourceState.{SourceState, assigned, stored, cleared, value_of, values_of}
 use Rattle.resolved.specs.Meaning.{Stop, Outcome, Ended, Stopped, normally, after, caught, given_to, received, sending, returned_to, Calls, statement_meaning, block_meaning, handlers_meaning, state_after}
-use Rattle.resolved.specs.Exits.{same_exit, has_exit, raises, thrown_exits, leaves_loop, handles, passes, statement_exits, block_exits, index_can_raise}
+use Rattle.resolved.specs.Exits.{same_exit, has_exit, raises, thrown_exits, leaves_loop, handles, passes, statement_exits, block_exits, index_can_raise, list_if}
 use Rattle.resolved.specs.declared.target.Target.{Target}
 use Rattle.resolved.specs.declared.target.Target.TheVariants.{ToEnd, ToThrown, ToValue, ToVariable, ToChannel, ToBegin, ToValue, ToLoop}
-use Rattle.resolved.specs.Labelled.{Scope, ExitLabels, Demand, demand, join_under, label_under, FitsDemands, variable_label, channel_label, result_label, value_label, raise_label, label_if, at_exits, raised_exit_labels, call_exit_labels, any_of, loop_exit_labels, statement_rule, block_rule, handlers_rule, block_exit_labels, target_demand, argument_demands, statement_demands, block_demands, handlers_demands, Labelling, Join, one, label_of, here, LabelAtom}
+use Rattle.resolved.specs.Labelled.{Scope, ExitLabels, Demand, demand, join_under, label_under, FitsDemands, variable_label, channel_label, result_label, value_label, raise_label, call_exit_labels, any_of, target_demand, argument_demands, Labelling, Join, one, label_of, here, LabelAtom}
+use Rattle.resolved.specs.LabelRules.{at_exits, raised_exit_labels, loop_exit_labels, statement_rule, block_rule, handlers_rule, block_exit_labels, statement_demands, block_demands, handlers_demands}
 use Rattle.isolation.proofs.OwnLabel.{own_label}
 use Rattle.lattices.specs.Constraints.{holds}
 use Rattle.labels.specs.LabelLattice.{label_lattice}
@@ -55,15 +56,15 @@ unread-demand {h} {labelling} reader program at rule left target fits unread =
     unread-flowing reader left (label_of program target) (fits-one h labelling program at rule left target fits) unread
 
 -- a label under a test that holds
-pub unread-label_if : {h : PrincipalHierarchy} {labelling : Labelling} (reader : Reader h labelling) (test : Bool) (label : Join) → test ≡ true →
-    reader.reads label ≡ false → reader.reads (label_if test label) ≡ false
-unread-label_if reader test label e unread = rw e unread
+pub unread-list_if : {h : PrincipalHierarchy} {labelling : Labelling} (reader : Reader h labelling) (test : Bool) (label : Join) → test ≡ true →
+    reader.reads label ≡ false → reader.reads (list_if test label) ≡ false
+unread-list_if reader test label e unread = rw e unread
 
 -- what is raised is raised at q
 pub unread-raised : {h : PrincipalHierarchy} {labelling : Labelling} (reader : Reader h labelling) (s : SourceState) (e : Expression) (q : Join) (x : ℕ) →
     value_of s e ≡ Raises x → reader.reads q ≡ false → reader.reads (raised_exit_labels e q (Throw x)) ≡ false
 unread-raised reader s e q x f unread =
-    unread-label_if reader (has_exit (thrown_exits (raises e)) (Throw x)) q (thrown-among (raises e) x ((expression-raises s e).among x f)) unread
+    unread-list_if reader (has_exit (thrown_exits (raises e)) (Throw x)) q (thrown-among (raises e) x ((expression-raises s e).among x f)) unread
 
 -- whether an observer reads the value of a procedure
 abbrev pub reads_result : {h : PrincipalHierarchy} {labelling : Labelling} → Reader h labelling → ProcedureEntry → Bool
@@ -150,7 +151,7 @@ pub own-unread : {h : PrincipalHierarchy} {labelling : Labelling} (reader : Read
 own-unread reader scope pc (Assign at x e) fits unread = unread-left reader pc (raise_label scope e) unread
 own-unread reader scope pc (Clear at slot) fits unread = unread
 own-unread reader scope pc (Store at array len index e) fits unread =
-    unread-left reader (pc ++ raise_label scope index ++ raise_label scope e) (label_if (index_can_raise index len) (value_label scope index))
+    unread-left reader (pc ++ raise_label scope index ++ raise_label scope e) (list_if (index_can_raise index len) (value_label scope index))
     (unread-left reader (pc ++ raise_label scope index) (raise_label scope e) (unread-left reader pc (raise_label scope index) unread))
 own-unread reader scope pc (Receive at channel target) fits unread = unread-left reader pc (one (label_of scope.program (ToChannel channel))) unread
 own-unread reader scope pc (Send at channel e) fits unread = unread-left reader pc (raise_label scope e) unread
@@ -199,7 +200,7 @@ unseen-handler view value more exception handled s x y h i = go (exception == ha
 pub unread-call : {h : PrincipalHierarchy} {labelling : Labelling} (reader : Reader h labelling) (program : Program) (f : ℕ) (q : Join) → reader.reads q ≡ false →
     (exit : Exit) → reader.reads (call_exit_labels program f q exit) ≡ false
 unread-call reader program f q unread Normal =
-    unread-left reader q (label_if (any_of (procedure_at program f).throws) (one (label_of program (ToEnd f)))) unread
+    unread-left reader q (list_if (any_of (procedure_at program f).throws) (one (label_of program (ToEnd f)))) unread
 unread-call reader program f q unread Return = unread
 unread-call reader program f q unread Break = unread
 unread-call reader program f q unread Continue = unread
@@ -347,14 +348,14 @@ module _ (h : PrincipalHierarchy) (labelling : Labelling) (reader : Reader h lab
         (block-among block scope.program calls k confines.among s)
         (block-unseen block pc (fits-left h labelling (block_demands scope pc block) (handlers_demands scope x handlers) fits) unread s) in
         let others : (exit : Exit) → passes handlers exit ≡ true → reader.reads (x exit) ≡ false → exits exit ≡ false =
-        λ exit passing m. unread-left reader (label_if (passes handlers exit) (x exit)) (handlers_rule scope x handlers exit)
-        (unread-label_if reader (passes handlers exit) (x exit) passing m) in
+        λ exit passing m. unread-left reader (list_if (passes handlers exit) (x exit)) (handlers_rule scope x handlers exit)
+        (unread-list_if reader (passes handlers exit) (x exit) passing m) in
         unseen-from view value exits s (state_after (block_meaning calls k block s))
         (caught (block_meaning calls k block s) (handlers_meaning calls k handlers)) inner.agree
         (unseen-caught view value handlers (read_exits reader x) exits (block_meaning calls k block s)
         (handlers_meaning calls k handlers) inner.hidden others
         (λ y t m. handlers-unseen handlers x (fits-right h labelling (block_demands scope pc block) (handlers_demands scope x handlers) fits) y t m exits
-        (λ exit n. unread-right reader (label_if (passes handlers exit) (x exit)) (handlers_rule scope x handlers exit) n)
+        (λ exit n. unread-right reader (list_if (passes handlers exit) (x exit)) (handlers_rule scope x handlers exit) n)
         (λ none. others (Throw y) (rw none refl) m)))
     statement-unseen (Nested at block) pc fits unread s =
         unseen-closed reader (view_of reader scope) (reads_result reader (here scope)) (block_exits scope.program block) pc
@@ -380,11 +381,11 @@ module _ (h : PrincipalHierarchy) (labelling : Labelling) (reader : Reader h lab
         unseen-from view value exits s (state_after (statement_meaning calls k statement s))
         (after (statement_meaning calls k statement s) (block_meaning calls k rest)) first.agree
         (unseen-after view value (read_exits reader x) exits (statement_meaning calls k statement s) (block_meaning calls k rest) first.hidden
-        (λ exit other m. unread-left reader (label_if (not (same_exit Normal exit)) (x exit)) (block_rule scope (x Normal) rest exit)
-        (unread-label_if reader (not (same_exit Normal exit)) (x exit) (ap not other) m))
+        (λ exit other m. unread-left reader (list_if (not (same_exit Normal exit)) (x exit)) (block_rule scope (x Normal) rest exit)
+        (unread-list_if reader (not (same_exit Normal exit)) (x exit) (ap not other) m))
         (λ t m. unseen-weaker view value (read_exits reader (block_rule scope (x Normal) rest)) exits t (block_meaning calls k rest t)
         (block-unseen rest (x Normal) (fits-right h labelling (statement_demands scope pc statement) (block_demands scope (x Normal) rest) fits) m t)
-        (λ exit n. unread-right reader (label_if (not (same_exit Normal exit)) (x exit)) (block_rule scope (x Normal) rest exit) n)))
+        (λ exit n. unread-right reader (list_if (not (same_exit Normal exit)) (x exit)) (block_rule scope (x Normal) rest exit) n)))
 
     pub handlers-unseen : (handlers : Handlers) (x : ExitLabels) → FitsDemands h labelling (handlers_demands scope x handlers) →
         (exception : ℕ) (s : SourceState) → reader.reads (x (Throw exception)) ≡ false → (more : Exit → Bool) →

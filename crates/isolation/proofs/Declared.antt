@@ -1,17 +1,19 @@
 -- Where a program's exits have no fault, each procedure ends only normally, by a return or by an exception that it declares.
-use Rattle.std.proofs.Common.{◌≡◌, refl, ℕ, zero, suc, true, false, not, ◌&&◌, List, [], ◌∷◌, ◌++◌, flat_map, is_some}
+use Rattle.std.proofs.Common.{◌≡◌, refl, sym, ◌∙◌, ℕ, zero, suc, true, false, not, ◌&&◌, List, [], ◌∷◌, ◌++◌, flat_map, is_some}
 use Rattle.std.specs.Prelude.{slice_index_or, None}
 use Rattle.std.specs.List.{list_all}
 use Rattle.resolved.specs.declared.statement.Exit.TheVariants.{Normal}
 use Rattle.resolved.specs.Tree.{Empty}
 use Rattle.resolved.specs.Program.{Program, ProcedureEntry}
-use Rattle.resolved.specs.Exits.{has_exit, block_exits}
-use Rattle.resolved.specs.ExitFaults.{fault_unless, block_faults, procedure_faults, exit_faults}
+use Rattle.resolved.specs.Exits.{has_exit, block_exits, fault_unless}
+use Rattle.resolved.specs.ExitFaults.{block_faults, procedure_faults}
+use Rattle.resolved.specs.Labelled.{exit_faults}
 use Rattle.resolved.specs.FaultParts.{may_exit}
 use Rattle.resolved.specs.declared.fault.ExitRefusalKind.TheVariants.{NoValueReturned, Undeclared}
 use Rattle.isolation.proofs.Among.{EndsAsDeclared}
 use Rattle.common.proofs.Cases.{append_empty}
 use Rattle.resolved.proofs.Exits.{no_fault-test}
+use Rattle.resolved.proofs.Judged.{faults-apart}
 
 procedure-ends : (program : Program) (procedure : ProcedureEntry) → procedure_faults program procedure ≡ [] →
     list_all (may_exit procedure) (block_exits program procedure.body) ≡ true
@@ -44,4 +46,4 @@ ends-as-declared program h f = each-ends program (record {
   slots = [];
   loops = 0;
   body = Empty;
-}) refl program.procedures h f
+}) refl program.procedures (sym (faults-apart program) ∙ h) f

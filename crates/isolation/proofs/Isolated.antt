@@ -1,5 +1,5 @@
 -- Isolation, by recursion on the frames: what the calls of a labelled program do, and what an observer sees of two of its runs.
-use Rattle.std.proofs.Common.{arith, ◌≡◌, refl, ap, ℕ, zero, suc, ◌+◌, ◌<◌, ◌≤◌, Bool, true, false, List, [], ◌∷◌, ◌⊎◌, inl, inr, length, ℤ}
+use Rattle.std.proofs.Common.{arith, ◌≡◌, refl, ap, subst, ℕ, zero, suc, ◌+◌, ◌<◌, ◌≤◌, Bool, true, false, List, [], ◌∷◌, ◌⊎◌, inl, inr, length, ℤ}
 use Rattle.std.specs.Prelude.{Option, Some, None, slice_get, slice_index_or, nat_lt, unwrap_or}
 use Rattle.principals.specs.ActsFor.{PrincipalHierarchy}
 use Rattle.labels.specs.Label.{Label}
@@ -16,7 +16,9 @@ use Rattle.resolved.specs.SourceState.{SourceState, World, cells}
 use Rattle.resolved.specs.Meaning.{Deep, Outcome, leaving, Stopped, entering, first_cells_of_slots, block_meaning, calls_with, first_state, numbers_by, run_within, state_after}
 use Rattle.resolved.specs.Exits.{block_exits}
 use Rattle.resolved.specs.declared.target.Target.TheVariants.{ToBegin}
-use Rattle.resolved.specs.Labelled.{Scope, OfLocal, Join, one, written_or, label_of, join_under, Labelling, FitsDemands, channel_label, block_rule, block_exit_labels, block_demands, exit_demands, procedure_demands, demands_from, program_demands}
+use Rattle.resolved.specs.Labelled.{Scope, OfLocal, Join, one, written_or, label_of, join_under, Labelling, FitsDemands, channel_label, exit_demands, program_demands}
+use Rattle.resolved.specs.LabelRules.{block_rule, block_exit_labels, block_demands, procedure_demands, demands_from}
+use Rattle.resolved.proofs.Judged.{demands-apart}
 use Rattle.lattices.specs.Constraints.{Written}
 use Rattle.isolation.proofs.Grows.{calls-grow}
 use Rattle.isolation.proofs.Among.{EndsAsDeclared, calls-among, block-among}
@@ -57,7 +59,8 @@ procedure-fits program labelling fits f = go (nat_lt f (length program.procedure
 
     go : (b : Bool) → nat_lt f (length program.procedures) ≡ b →
         FitsDemands program.hierarchy labelling (procedure_demands (record { program = program; number = f }))
-    go true e = demands-at program labelling program.procedures 0 f f (omega arith) (grind (arith, e)) fits
+    go true e = demands-at program labelling program.procedures 0 f f (omega arith) (grind (arith, e))
+        (subst (FitsDemands program.hierarchy labelling) (demands-apart program) fits)
     go false e =
         let none : procedure_at program f ≡ record {
           at = 0;

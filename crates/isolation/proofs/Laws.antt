@@ -6,8 +6,8 @@ use Rattle.principals.specs.ActsFor.{PrincipalHierarchy}
 use Rattle.resolved.specs.Program.{Program}
 use Rattle.resolved.specs.Meaning.{Outcome, Ended, Stopped, statement_meaning, calls_with, state_after, frame_limit}
 use Rattle.resolved.specs.Exits.{statement_exits}
-use Rattle.resolved.specs.ExitFaults.{exit_faults}
-use Rattle.resolved.specs.Labelled.{Scope, here, Labelling, ExitLabels, Labelled, statement_rule, statement_exit_labels, result_label}
+use Rattle.resolved.specs.Labelled.{Scope, here, Labelling, ExitLabels, Labelled, result_label, exit_faults}
+use Rattle.resolved.specs.LabelRules.{statement_rule, statement_exit_labels}
 use Rattle.resolved.specs.Isolated.{Isolated}
 use Rattle.isolation.specs.Confinement.{SameFor, UnreadExit, StatementsAreConfined, PossibleEndsAreUnread}
 use Rattle.isolation.specs.TwoRuns.{OutcomesAgree, StatementsAgree}

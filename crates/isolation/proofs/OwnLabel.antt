@@ -1,14 +1,14 @@
 -- The label at which a statement has evaluated its own expressions, and at which these raise exceptions.
 use Rattle.std.specs.Prelude.{◌++◌, Some, flat_map}
-use Rattle.resolved.specs.Exits.{index_can_raise}
+use Rattle.resolved.specs.Exits.{index_can_raise, list_if}
 use Rattle.resolved.specs.Tree.{Statement, Assign, Store, Receive, Send, Call, If, While, ReturnWith}
 use Rattle.resolved.specs.declared.target.Target.TheVariants.{ToChannel, ToLoop}
-use Rattle.resolved.specs.Labelled.{Scope, Join, one, label_of, label_if, value_label, raise_label}
+use Rattle.resolved.specs.Labelled.{Scope, Join, one, label_of, value_label, raise_label}
 
 abbrev pub own_label : Scope → (pc : Join) → Statement → Join
 own_label scope pc (Assign at x e) = pc ++ raise_label scope e
 own_label scope pc (Store at array length index e) =
-    pc ++ raise_label scope index ++ raise_label scope e ++ label_if (index_can_raise index length) (value_label scope index)
+    pc ++ raise_label scope index ++ raise_label scope e ++ list_if (index_can_raise index length) (value_label scope index)
 own_label scope pc (Receive at channel target) = pc ++ one (label_of scope.program (ToChannel channel))
 own_label scope pc (Send at channel e) = pc ++ raise_label scope e
 own_label scope pc (Call at procedure arguments target) = pc ++ flat_map (raise_label scope) arguments

@@ -13,19 +13,20 @@ use Rattle.resolved.specs.Program.{Program, procedure_at}
 use Rattle.resolved.specs.Value.{truth_in, checked_index, zero_value, base_of}
 use Rattle.resolved.specs.SourceState.{SourceState, assigned, stored, cleared, cells, value_of, values_of}
 use Rattle.resolved.specs.Meaning.{Ended, normally, given_to, received, sending, returned_to, Calls, statement_meaning, block_meaning, handlers_meaning}
-use Rattle.resolved.specs.Exits.{same_exit, passes, statement_exits, block_exits, index_can_raise}
+use Rattle.resolved.specs.Exits.{same_exit, passes, statement_exits, block_exits, index_can_raise, list_if}
 use Rattle.resolved.specs.declared.target.Target.{Target}
 use Rattle.resolved.specs.declared.target.Target.TheVariants.{ToParameter, ToValue, ToVariable, ToChannel, ToBegin, ToValue, ToLoop}
-use Rattle.resolved.specs.Labelled.{Scope, ExitLabels, demand, FitsDemands, variable_label, value_label, raise_label, label_if, at_exits, raised_exit_labels, call_exit_labels, statement_rule, block_rule, handlers_rule, target_demand, argument_demands, statement_demands, block_demands, handlers_demands, Labelling, Join, one, label_of, here}
+use Rattle.resolved.specs.Labelled.{Scope, ExitLabels, demand, FitsDemands, variable_label, value_label, raise_label, call_exit_labels, target_demand, argument_demands, Labelling, Join, one, label_of, here}
+use Rattle.resolved.specs.LabelRules.{at_exits, raised_exit_labels, statement_rule, block_rule, handlers_rule, statement_demands, block_demands, handlers_demands}
 use Rattle.isolation.proofs.OwnLabel.{own_label}
 use Rattle.isolation.proofs.Grows.{CallsGrow, block-grows, handlers-grow}
 use Rattle.isolation.proofs.Among.{statement-among, block-among}
 use Rattle.isolation.proofs.Observer.{Reader, View, view_of, AgreeFor, agree-with_cells, agree-with_input, agree-sending, with_input, read-left, read-right, unread-left, unread-right}
-use Rattle.isolation.proofs.Values.{SameIf, index-alike, expression-alike, ArgumentsAlike, no_arguments, one_more, arguments-alike, read-label_if}
+use Rattle.isolation.proofs.Values.{SameIf, index-alike, expression-alike, ArgumentsAlike, no_arguments, one_more, arguments-alike, read-list_if}
 use Rattle.isolation.proofs.Unseen.{unseen-weaker, unseen-if}
 use Rattle.isolation.proofs.Related.{Related, agreed_exit, same_return, both-unseen, related-evaluated, related-if, related-weaker, related-after, related-fuel, related-once, related-caught}
 use Rattle.isolation.proofs.Closed.{read_exits, unseen-closed, related-closed}
-use Rattle.isolation.proofs.Confined.{Confines, reads_result, fits-left, fits-right, fits-one, unread-label_if, unread-target, loop-read, statement-unseen, block-unseen, handlers-unseen}
+use Rattle.isolation.proofs.Confined.{Confines, reads_result, fits-left, fits-right, fits-one, unread-list_if, unread-target, loop-read, statement-unseen, block-unseen, handlers-unseen}
 use Rattle.isolation.proofs.Calls.{RelatedCall, related-returned_to, declared_label}
 use Rattle.common.specs.declared.exceptions.TheConstants.{END}
 
@@ -140,9 +141,9 @@ module _ (h : PrincipalHierarchy) (labelling : Labelling) (reader : Reader h lab
         let q : Join = own_label scope pc (Store at array len index e) in
         let exits = read_exits reader (statement_rule scope pc (Store at array len index e)) in
         by-reading (reader.reads q) (both-hidden (Store at array len index e) pc fits s t agree) (λ read.
-        let front = read-left reader (pc ++ ri ++ re) (label_if test vi) read in
-        let covered : test ≡ true → reader.reads vi ≡ true = read-label_if reader test vi
-        (read-right reader (pc ++ ri ++ re) (label_if test vi) read) in
+        let front = read-left reader (pc ++ ri ++ re) (list_if test vi) read in
+        let covered : test ≡ true → reader.reads vi ≡ true = read-list_if reader test vi
+        (read-right reader (pc ++ ri ++ re) (list_if test vi) read) in
         related-evaluated (SameIf (reader.reads vi)) view value exits s t (value_of s index) (value_of t index) _ _ agree
         (expression-alike reader scope s t agree index (read-right reader pc ri (read-left reader (pc ++ ri) re front))) (λ v v' f f' same_index.
         related-evaluated (SameIf (reader.reads ve)) view value exits s t (value_of s e) (value_of t e) _ _ agree
@@ -340,10 +341,10 @@ module _ (h : PrincipalHierarchy) (labelling : Labelling) (reader : Reader h lab
         let block_fits = fits-left h labelling (block_demands scope pc block) (handlers_demands scope x handlers) fits in
         let handlers_fit = fits-right h labelling (block_demands scope pc block) (handlers_demands scope x handlers) fits in
         let others : (exit : Exit) → passes handlers exit ≡ true → reader.reads (x exit) ≡ false → exits exit ≡ false =
-        λ exit passing u. unread-left reader (label_if (passes handlers exit) (x exit)) (handlers_rule scope x handlers exit)
-        (unread-label_if reader (passes handlers exit) (x exit) passing u) in
+        λ exit passing u. unread-left reader (list_if (passes handlers exit) (x exit)) (handlers_rule scope x handlers exit)
+        (unread-list_if reader (passes handlers exit) (x exit) passing u) in
         let more : (exit : Exit) → reader.reads (handlers_rule scope x handlers exit) ≡ false → exits exit ≡ false =
-        λ exit u. unread-right reader (label_if (passes handlers exit) (x exit)) (handlers_rule scope x handlers exit) u in
+        λ exit u. unread-right reader (list_if (passes handlers exit) (x exit)) (handlers_rule scope x handlers exit) u in
         related-caught view value handlers (read_exits reader x) exits (block_meaning calls k block s) (block_meaning further m block t)
         (handlers_meaning calls k handlers) (handlers_meaning further m handlers)
         (related-closed reader view value ends pc (block_rule scope pc block) (block_meaning calls k block s)
@@ -379,14 +380,14 @@ module _ (h : PrincipalHierarchy) (labelling : Labelling) (reader : Reader h lab
         let here = fits-left h labelling (statement_demands scope pc statement) (block_demands scope (x Normal) rest) fits in
         let later = fits-right h labelling (statement_demands scope pc statement) (block_demands scope (x Normal) rest) fits in
         let more : (exit : Exit) → reader.reads (block_rule scope (x Normal) rest exit) ≡ false → exits exit ≡ false =
-        λ exit u. unread-right reader (label_if (not (same_exit Normal exit)) (x exit)) (block_rule scope (x Normal) rest exit) u in
+        λ exit u. unread-right reader (list_if (not (same_exit Normal exit)) (x exit)) (block_rule scope (x Normal) rest exit) u in
         related-after view value (read_exits reader x) exits (statement_meaning calls k statement s)
         (statement_meaning further m statement t) (block_meaning calls k rest) (block_meaning further m rest)
         (related-closed reader view value ends pc (statement_rule scope pc statement) (statement_meaning calls k statement s)
         (statement_meaning further m statement t) (statement-among statement scope.program calls k secures.first.among s)
         (statement-among statement scope.program further m secures.second.among t) (statement-secure statement pc here s t agree))
-        (λ exit other u. unread-left reader (label_if (not (same_exit Normal exit)) (x exit)) (block_rule scope (x Normal) rest exit)
-        (unread-label_if reader (not (same_exit Normal exit)) (x exit) (ap not other) u))
+        (λ exit other u. unread-left reader (list_if (not (same_exit Normal exit)) (x exit)) (block_rule scope (x Normal) rest exit)
+        (unread-list_if reader (not (same_exit Normal exit)) (x exit) (ap not other) u))
         (λ unread u. unseen-weaker view value (read_exits reader (block_rule scope (x Normal) rest)) exits u (block_meaning calls k rest u)
         (block-unseen h labelling reader scope calls k secures.first rest (x Normal) later unread u) more)
         (λ unread u. unseen-weaker view value (read_exits reader (block_rule scope (x Normal) rest)) exits u (block_meaning further m rest u)

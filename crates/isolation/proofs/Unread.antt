@@ -9,15 +9,16 @@ use Rattle.resolved.specs.FaultParts.{place_of, may_stand, inner_faults}
 use Rattle.resolved.specs.declared.statement.Exit.{Exit}
 use Rattle.resolved.specs.declared.statement.Exit.TheVariants.{Normal, Return, Break, Continue, Throw}
 use Rattle.resolved.specs.Tree.{Statement, Call, If, While, ReturnWith, Try, Nested, Block, Empty, Then, Handlers, NoMore, Catch}
-use Rattle.resolved.specs.Exits.{same_exit, has_exit, raises, thrown_exits, leaves_loop, passes, then_exits, statement_exits, block_exits, handlers_exits}
-use Rattle.resolved.specs.ExitFaults.{fault_unless, block_faults, handlers_faults}
+use Rattle.resolved.specs.Exits.{same_exit, has_exit, raises, thrown_exits, leaves_loop, passes, then_exits, statement_exits, block_exits, handlers_exits, fault_unless, list_if}
+use Rattle.resolved.specs.ExitFaults.{block_faults, handlers_faults}
 use Rattle.resolved.specs.declared.fault.ExitRefusalKind.TheVariants.{OutsideLoop, Unreachable, NeverRaised}
 use Rattle.resolved.specs.declared.target.Target.TheVariants.{ToLoop}
-use Rattle.resolved.specs.Labelled.{Scope, ExitLabels, demand, FitsDemands, value_label, label_if, at_exits, raised_exit_labels, loop_exit_labels, statement_rule, block_rule, handlers_rule, statement_demands, block_demands, handlers_demands, Labelling, Join, one, label_of}
+use Rattle.resolved.specs.Labelled.{Scope, ExitLabels, demand, FitsDemands, value_label, Labelling, Join, one, label_of}
+use Rattle.resolved.specs.LabelRules.{at_exits, raised_exit_labels, loop_exit_labels, statement_rule, block_rule, handlers_rule, statement_demands, block_demands, handlers_demands}
 use Rattle.isolation.proofs.OwnLabel.{own_label}
 use Rattle.isolation.proofs.Observer.{Reader, unread-left, unread-right}
 use Rattle.isolation.proofs.Closed.{closed-unread}
-use Rattle.isolation.proofs.Confined.{fits-left, fits-right, unread-label_if, unread-call, own-unread}
+use Rattle.isolation.proofs.Confined.{fits-left, fits-right, unread-list_if, unread-call, own-unread}
 use Rattle.common.proofs.Cases.{append_empty}
 use Rattle.resolved.proofs.Exits.{same-exit, no_fault-test, end-filter, faults-in_parts}
 
@@ -53,8 +54,8 @@ then-cases first rest exit h = go (has_exit first Normal) refl
 module _ (h : PrincipalHierarchy) (labelling : Labelling) (reader : Reader h labelling) (scope : Scope) where
   -- what is raised, and what leaves a loop
   raised-end : (xs : List ℕ) (q : Join) (exit : Exit) → reader.reads q ≡ false → has_exit (thrown_exits xs) exit ≡ true →
-      reader.reads (label_if (has_exit (thrown_exits xs) exit) q) ≡ false
-  raised-end xs q exit unread e = unread-label_if reader (has_exit (thrown_exits xs) exit) q e unread
+      reader.reads (list_if (has_exit (thrown_exits xs) exit) q) ≡ false
+  raised-end xs q exit unread e = unread-list_if reader (has_exit (thrown_exits xs) exit) q e unread
 
   loop-end : (b : Join) (x : ExitLabels) (exit : Exit) → leaves_loop exit ≡ true → reader.reads (x exit) ≡ false →
       reader.reads (loop_exit_labels b x exit) ≡ false
@@ -128,9 +129,9 @@ module _ (h : PrincipalHierarchy) (labelling : Labelling) (reader : Reader h lab
         (block-ends-unread block pc in_loop true parts.0 block_fits unread e found) in
         ⊎_elim
         (λ passing. let found = filtered-end (passes handlers) ends exit passing in
-        unread-left reader (label_if (passes handlers exit) (x exit)) (handlers_rule scope x handlers exit)
-        (unread-label_if reader (passes handlers exit) (x exit) found.0 (inner exit found.1)))
-        (λ handled. unread-right reader (label_if (passes handlers exit) (x exit)) (handlers_rule scope x handlers exit)
+        unread-left reader (list_if (passes handlers exit) (x exit)) (handlers_rule scope x handlers exit)
+        (unread-list_if reader (passes handlers exit) (x exit) found.0 (inner exit found.1)))
+        (λ handled. unread-right reader (list_if (passes handlers exit) (x exit)) (handlers_rule scope x handlers exit)
         (handlers-ends-unread handlers x in_loop ends parts.1 (fits-right h labelling (block_demands scope pc block)
         (handlers_demands scope x handlers) fits) (λ y found. inner (Throw y) found) exit handled))
         (either-end (filter (passes handlers) ends) (handlers_exits scope.program handlers) exit among)
@@ -164,9 +165,9 @@ module _ (h : PrincipalHierarchy) (labelling : Labelling) (reader : Reader h lab
         (statement_rule scope pc statement) e (λ one. unread) found
         (statement-ends-unread statement pc in_loop here.1 statement_fits unread e found) in
         ⊎_elim
-        (λ other. unread-left reader (label_if (not (same_exit Normal exit)) (x exit)) (block_rule scope (x Normal) rest exit)
-        (unread-label_if reader (not (same_exit Normal exit)) (x exit) other.0 (inner exit other.1)))
-        (λ after. unread-right reader (label_if (not (same_exit Normal exit)) (x exit)) (block_rule scope (x Normal) rest exit)
+        (λ other. unread-left reader (list_if (not (same_exit Normal exit)) (x exit)) (block_rule scope (x Normal) rest exit)
+        (unread-list_if reader (not (same_exit Normal exit)) (x exit) other.0 (inner exit other.1)))
+        (λ after. unread-right reader (list_if (not (same_exit Normal exit)) (x exit)) (block_rule scope (x Normal) rest exit)
         (block-ends-unread rest (x Normal) in_loop (has_exit ends Normal) both.1
         (fits-right h labelling (statement_demands scope pc statement) (block_demands scope (x Normal) rest) fits)
         (inner Normal after.0) exit after.1))

@@ -8,8 +8,8 @@ use Rattle.resolved.specs.Program.{Program, ProcedureEntry, ResultEntry}
 use Rattle.resolved.specs.Value.{base_of}
 use Rattle.resolved.specs.SourceState.{SourceState}
 use Rattle.resolved.specs.Meaning.{Outcome, Ended, Stopped, leaving, entering, calls_with, block_meaning}
-use Rattle.resolved.specs.Exits.{has_exit, block_exits}
-use Rattle.resolved.specs.ExitFaults.{fault_unless, block_faults, procedure_faults}
+use Rattle.resolved.specs.Exits.{has_exit, block_exits, fault_unless}
+use Rattle.resolved.specs.ExitFaults.{block_faults, procedure_faults}
 use Rattle.resolved.specs.FaultParts.{may_exit}
 use Rattle.resolved.specs.declared.fault.ExitRefusalKind.TheVariants.{NoValueReturned, Undeclared}
 use Rattle.resolved.specs.WellFormed.{has_result, same_base}
@@ -24,6 +24,7 @@ use Rattle.isolation.proofs.Among.{Among, block-among, calls-among}
 use Rattle.isolation.proofs.Declared.{ends-as-declared}
 use Rattle.common.proofs.Cases.{append_empty}
 use Rattle.resolved.proofs.Exits.{no_fault-test}
+use Rattle.resolved.proofs.Judged.{faults-apart}
 
 -- a procedure with a value does not end normally
 no-normal : (program : Program) (procedure : ProcedureEntry) (value : ResultEntry) → procedure_faults program procedure ≡ [] → procedure.result ≡ Some value →
@@ -73,7 +74,7 @@ calls-give program formed none f callee value there is caller s state arguments 
     let P : ProcedureEntry → Type 0 = λ p. GivesValue value.base (leaving back (block_meaning (calls_with program k frames) k p.body (entering p arguments s))) in
     subst P (sym (procedure_at_is program f callee there))
     (leaving-gives program callee value back (block_meaning (calls_with program k frames) k callee.body inner) is
-    (no-normal program callee value (faultless-there program program.procedures none f callee there) is)
+    (no-normal program callee value (faultless-there program program.procedures (sym (faults-apart program) ∙ none) f callee there) is)
     (block-among callee.body program (calls_with program k frames) k (calls-among program k frames (ends-as-declared program none)) inner)
     (block_some program callee value is k frames callee.body inner parts.body_fits)
     (meaning_keeps_types program formed callee callee.body parts.body_fits frames k inner

@@ -12,8 +12,8 @@ use Rattle.common.specs.declared.operator.Connective.{Connective}
 use Rattle.resolved.specs.Tree.{Expression, Integer, Logical, Read, Element, Unary, Binary, Short}
 use Rattle.resolved.specs.Value.{Evaluated, Yields, Raises, then_with, number_in, literal_number, or_arith, prefix_value, operator_value, decides, in_range, checked_index}
 use Rattle.resolved.specs.SourceState.{SourceState, cells, cell_at, value_of, values_of}
-use Rattle.resolved.specs.Exits.{index_can_raise, divisor_can_raise, is_division, raises}
-use Rattle.resolved.specs.Labelled.{Scope, variable_label, value_label, raise_label, label_if, any_of, Labelling, Join}
+use Rattle.resolved.specs.Exits.{index_can_raise, divisor_can_raise, is_division, raises, list_if}
+use Rattle.resolved.specs.Labelled.{Scope, variable_label, value_label, raise_label, any_of, Labelling, Join}
 use Rattle.isolation.proofs.Among.{RaisesAmong, expression-raises, index-in_range, divisor-not_zero}
 use Rattle.isolation.proofs.Observer.{Reader, view_of, AgreeFor, read-left, read-right}
 use Rattle.common.specs.Integers.{is_zero}
@@ -39,9 +39,9 @@ alike-weaker P Q o p weaker (both_give v w h) = both_give v w (weaker v w h)
 alike-weaker P Q o p weaker (both_raise x) = both_raise x
 
 -- a label under a test that holds
-pub read-label_if : {h : PrincipalHierarchy} {labelling : Labelling} (reader : Reader h labelling) (test : Bool) (label : Join) →
-    reader.reads (label_if test label) ≡ true → test ≡ true → reader.reads label ≡ true
-read-label_if reader test label h e = rw e at h
+pub read-list_if : {h : PrincipalHierarchy} {labelling : Labelling} (reader : Reader h labelling) (test : Bool) (label : Join) →
+    reader.reads (list_if test label) ≡ true → test ≡ true → reader.reads label ≡ true
+read-list_if reader test label h e = rw e at h
 
 pub index-alike : (s t : SourceState) (index : Expression) (len : ℕ) (b : Bool) (v w : Value) →
     (index_can_raise index len ≡ true → b ≡ true) → value_of s index ≡ Yields v → value_of t index ≡ Yields w → SameIf b v w →
@@ -137,12 +137,12 @@ expression-alike reader scope s t agree (Element array len index) reads =
     let c : Join = variable_label scope array in
     let l : Join = value_label scope index in
     let test : Bool = index_can_raise index len in
-    let covered : test ≡ true → reader.reads l ≡ true = read-label_if reader test l
-    (read-right reader (raise_label scope index) (label_if test l) reads) in
+    let covered : test ≡ true → reader.reads l ≡ true = read-list_if reader test l
+    (read-right reader (raise_label scope index) (list_if test l) reads) in
     alike-then (SameIf (reader.reads l)) (SameIf (reader.reads (c ++ l))) (value_of s index) (value_of t index)
     (λ v. then_with (checked_index v len) (λ i. Yields (cell_at (cells s array) i)))
     (λ v. then_with (checked_index v len) (λ i. Yields (cell_at (cells t array) i)))
-    (expression-alike reader scope s t agree index (read-left reader (raise_label scope index) (label_if test l) reads)) (λ v w f g same.
+    (expression-alike reader scope s t agree index (read-left reader (raise_label scope index) (list_if test l) reads)) (λ v w f g same.
     alike-then (SameIf (reader.reads l)) (SameIf (reader.reads (c ++ l))) (checked_index v len) (checked_index w len)
     (λ i. Yields (cell_at (cells s array) i)) (λ i. Yields (cell_at (cells t array) i))
     (index-alike s t index len (reader.reads l) v w covered f g same) (λ i j p q same_index.
@@ -158,8 +158,8 @@ expression-alike reader scope s t agree (Binary operator d e) reads =
     let vd : Join = value_label scope d in
     let ve : Join = value_label scope e in
     let test : Bool = is_division operator && divisor_can_raise e in
-    let both : reader.reads (rd ++ re) ≡ true = read-left reader (rd ++ re) (label_if test ve) reads in
-    let covered : test ≡ true → reader.reads ve ≡ true = read-label_if reader test ve (read-right reader (rd ++ re) (label_if test ve) reads) in
+    let both : reader.reads (rd ++ re) ≡ true = read-left reader (rd ++ re) (list_if test ve) reads in
+    let covered : test ≡ true → reader.reads ve ≡ true = read-list_if reader test ve (read-right reader (rd ++ re) (list_if test ve) reads) in
     alike-then (SameIf (reader.reads vd)) (SameIf (reader.reads (vd ++ ve))) (value_of s d) (value_of t d)
     (λ v. then_with (value_of s e) (λ w. operator_value operator v w)) (λ v. then_with (value_of t e) (λ w. operator_value operator v w))
     (expression-alike reader scope s t agree d (read-left reader rd re both)) (λ v v' f f' same.
@@ -175,8 +175,8 @@ expression-alike reader scope s t agree (Short connective d e) reads =
     let vd : Join = value_label scope d in
     let ve : Join = value_label scope e in
     let test : Bool = any_of (raises e) in
-    let both : reader.reads (rd ++ re) ≡ true = read-left reader (rd ++ re) (label_if test vd) reads in
-    let covered : test ≡ true → reader.reads vd ≡ true = read-label_if reader test vd (read-right reader (rd ++ re) (label_if test vd) reads) in
+    let both : reader.reads (rd ++ re) ≡ true = read-left reader (rd ++ re) (list_if test vd) reads in
+    let covered : test ≡ true → reader.reads vd ≡ true = read-list_if reader test vd (read-right reader (rd ++ re) (list_if test vd) reads) in
     alike-then (SameIf (reader.reads vd)) (SameIf (reader.reads (vd ++ ve))) (value_of s d) (value_of t d)
     (λ v. if decides connective v then Yields v else value_of s e) (λ v. if decides connective v then Yields v else value_of t e)
     (expression-alike reader scope s t agree d (read-left reader rd re both)) (λ v w f g same.

@@ -11,8 +11,8 @@ use Rattle.resolved.specs.Tree.{Statement}
 use Rattle.resolved.specs.SourceState.{SourceState, cells}
 use Rattle.resolved.specs.Meaning.{Outcome, Ended, Stopped, state_after, statement_meaning, calls_with}
 use Rattle.resolved.specs.Exits.{has_exit, statement_exits}
-use Rattle.resolved.specs.ExitFaults.{exit_faults}
-use Rattle.resolved.specs.Labelled.{Scope, Labelling, Join, ExitLabels, FitsDemands, Labelled, join_under, variable_label, channel_label, statement_demands, statement_exit_labels}
+use Rattle.resolved.specs.Labelled.{Scope, Labelling, Join, ExitLabels, FitsDemands, Labelled, join_under, variable_label, channel_label, exit_faults}
+use Rattle.resolved.specs.LabelRules.{statement_demands, statement_exit_labels}
 
 -- whether a principal may read a label, and what it sees in a state of what was sent, under the program's own hierarchy
 abbrev pub reads : Scope → (p : ℕ) → Label → Bool

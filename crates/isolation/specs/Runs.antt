@@ -12,7 +12,7 @@ use Rattle.resolved.specs.Value.{base_of}
 use Rattle.resolved.specs.SourceState.{World, SourceState}
 use Rattle.resolved.specs.Meaning.{Outcome, Ended, Stopped, OutOfFuel, Deep, state_after, statement_meaning, block_meaning, calls_with, run_within, sent_by}
 use Rattle.resolved.specs.Exits.{has_exit, thrown_exits, declared_by, statement_exits, block_exits}
-use Rattle.resolved.specs.ExitFaults.{exit_faults}
+use Rattle.resolved.specs.Labelled.{exit_faults}
 use Rattle.resolved.specs.WellFormed.{parameters_of, well_formed}
 use Rattle.resolved.specs.Kinds.{ArgumentsFit, StateFits}
 

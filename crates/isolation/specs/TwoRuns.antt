@@ -5,8 +5,8 @@ use Rattle.labels.specs.Sent.{IsPrefix}
 use Rattle.resolved.specs.Tree.{Statement}
 use Rattle.resolved.specs.SourceState.{SourceState}
 use Rattle.resolved.specs.Meaning.{Outcome, Ended, Stopped, statement_meaning, calls_with}
-use Rattle.resolved.specs.ExitFaults.{exit_faults}
-use Rattle.resolved.specs.Labelled.{Scope, here, Labelling, Join, ExitLabels, FitsDemands, Labelled, result_label, statement_demands, statement_exit_labels}
+use Rattle.resolved.specs.Labelled.{Scope, here, Labelling, Join, ExitLabels, FitsDemands, Labelled, result_label, exit_faults}
+use Rattle.resolved.specs.LabelRules.{statement_demands, statement_exit_labels}
 use Rattle.isolation.specs.Confinement.{reads, reads_under, sees, SameFor}
 
 -- what the principal sees in one state is a prefix of what it sees in another

@@ -1,9 +1,8 @@
 //! The definitions are not empty: programs that the rules accept, one that they refuse, and what two runs show.
 
 ghost use Rattle.isolation.specs.Examples.{bob, bob_sees, comes, for_alice, relay, sends, two_principals, waiting};
-ghost use Rattle.resolved.specs.ExitFaults.{exit_faults};
 ghost use Rattle.resolved.specs.Isolated.{Agree, Isolated};
-ghost use Rattle.resolved.specs.Labelled.{Labelled, channel_label};
+ghost use Rattle.resolved.specs.Labelled.{Labelled, channel_label, exit_faults};
 ghost use Rattle.resolved.specs.Meaning.{sent_by};
 ghost use Rattle.std.specs.Prelude.{[], ℕ, pos, ◌≡◌};
 

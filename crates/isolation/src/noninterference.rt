@@ -4,9 +4,8 @@ ghost use Rattle.isolation.specs.TwoRuns.{StatementsAgree};
 ghost use Rattle.isolation.specs.Larger.{IsolatedCarried, IsolatedUnderLarger};
 ghost use Rattle.labels.specs.Carried.{KeepsActsFor};
 ghost use Rattle.principals.specs.ActsFor.{IsHierarchy, PrincipalHierarchy};
-ghost use Rattle.resolved.specs.ExitFaults.{exit_faults};
 ghost use Rattle.resolved.specs.Isolated.{Isolated};
-ghost use Rattle.resolved.specs.Labelled.{Labelled, Labelling, Scope};
+ghost use Rattle.resolved.specs.Labelled.{Labelled, Labelling, Scope, exit_faults};
 ghost use Rattle.resolved.specs.Program.{Program};
 ghost use Rattle.std.specs.Prelude.{[], ℕ, ◌≡◌};
 

@@ -14,7 +14,8 @@ use Rattle.modules.specs.Code.{code_length}
 use Rattle.modules.specs.Contents.{ProcedureContents, ModuleContents}
 use Rattle.modules.specs.ByteFormat.{Fits, FitEach, Code}
 use Rattle.modules.specs.Opcodes.{HasSpelling}
-use Rattle.modules.specs.Format.{handler, handlers, procedure, procedures, may_start, main, program, contents, module_file}
+use Rattle.modules.specs.Format.{handler, procedure, main, module_file}
+use Rattle.modules.specs.FormatParts.{handlers, procedures, may_start}
 use Rattle.modules.proofs.Spelling.{bytes-length}
 use Rattle.modules.specs.Targets.{target_of, renamed_instruction, renamed_handler}
 use Rattle.layout.specs.Offsets.{offset, laid_out_procedure, laid_out}
@@ -79,7 +80,7 @@ handlers_fit code hs short within h =
 -- ---- procedures
 
 procedure_fits : (version : Version) (p : ProcedureContents) → HasPositions p → Fits (procedure version) p → Fits (procedure version) (laid_out_procedure p)
-unfolding procedure
+unfolding procedure handlers
 procedure_fits version p positions h =
     let code = code_fits version p.code positions.targets h.0.1.1.1.0 in
     let handlers = handlers_fit p.code p.handlers (code_short version p.code h.0.1.1.1.0) positions.handlers h.0.1.1.1.1 in
@@ -107,11 +108,11 @@ main_fits ps number h = (h.0, ap may_start (slice_get-map laid_out_procedure ps 
 -- ---- graphs
 
 pub codes-short : (graph : ModuleContents) → IsGraph graph → All (λ (p : ProcedureContents). code_length p.code < 2 ^ 32) graph.procedures
-unfolding module_file contents program
+unfolding module_file procedures
 codes-short graph h = procedures_short graph.version graph.procedures h.limits.0.1.1.1.1.0
 
 pub Fits-laid_out : (graph : ModuleContents) → IsGraph graph → Fits module_file (laid_out graph)
-unfolding module_file contents program
+unfolding module_file procedures
 Fits-laid_out graph h =
     let all = h.limits.0 in
     let made = procedures_fit graph.version graph.procedures h.positions all.1.1.1.1.0 in

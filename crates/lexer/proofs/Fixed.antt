@@ -6,7 +6,8 @@ use Rattle.std.specs.Map.{lookup}
 use Rattle.std.specs.List.{list_all, list_any}
 use Rattle.std.proofs.lemmas.Bool.{cases_Bool, and_parts, cond-true, cond-false, or_cases}
 use Rattle.std.proofs.lemmas.Slice.Eq.{bytes_eq-Decides}
-use Rattle.lexer.specs.KindOf.{kind_of, code_of, text_of, keyword_rows, sign_rows, keyword_of, sign_of}
+use Rattle.lexer.specs.KindOf.{kind_of, text_of}
+use Rattle.lexer.specs.KindRows.{code_of, keyword_rows, sign_rows, keyword_of, sign_of}
 use Rattle.lexer.specs.Lexeme.{IsLexeme, Word, FixedWord}
 use Rattle.lexer.specs.TokenKind.{TokenKind, Fixed, Name, Integer, End, word_of}
 use Rattle.lexer.specs.Words.{keywords, signs, is_fixed}

@@ -5,7 +5,8 @@ use Rattle.std.specs.Char.{is_ascii_digit, is_ascii_lowercase}
 use Rattle.std.specs.List.{list_all}
 use Rattle.std.specs.Prelude.{nat_le}
 use Rattle.std.specs.Str.Parse.{digits_value}
-use Rattle.lexer.specs.KindOf.{kind_of, keyword_of, sign_of, keyword_rows, sign_rows}
+use Rattle.lexer.specs.KindOf.{kind_of}
+use Rattle.lexer.specs.KindRows.{keyword_of, sign_of, keyword_rows, sign_rows}
 use Rattle.lexer.specs.TokenKind.{Name, Integer}
 use Rattle.lexer.specs.Words.{is_white_space, is_name, is_fixed}
 use Rattle.unicode_ident.specs.Ident.{is_xid_continue}

@@ -7,7 +7,7 @@ use Rattle.std.proofs.lemmas.Bool.{and_parts, not-true, cond-false}
 use Rattle.std.proofs.lemmas.Bool.Decides.{nat_tests}
 use Rattle.lexer.specs.declared.token.Kind.{Kind}
 use Rattle.lexer.specs.Scan.{has_front}
-use Rattle.lexer.specs.KindOf.{keyword_rows, keyword_of}
+use Rattle.lexer.specs.KindRows.{keyword_rows, keyword_of}
 use Rattle.lexer.proofs.Signs.{head, unlike, none_found}
 
 -- no two rows have words of one length and first byte

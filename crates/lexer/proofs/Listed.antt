@@ -9,7 +9,7 @@ use Rattle.std.specs.Char.{is_ascii}
 use Rattle.std.specs.Str.{chars, IsUtf8, IsAscii, IsCharBoundary, encode_utf8_all, all_scalars}
 use Rattle.std.specs.Str.Parse.{digits_value}
 use Rattle.lexer.specs.Terminal.{Terminal, IsTerminated}
-use Rattle.lexer.specs.KindOf.{keyword_rows, sign_rows}
+use Rattle.lexer.specs.KindRows.{keyword_rows, sign_rows}
 use Rattle.lexer.specs.TokenKind.{TokenKind, End}
 use Rattle.lexer.specs.Words.{is_name, is_fixed}
 use Rattle.lexer.specs.Lexeme.{Lexeme, Word, Gap, IsLexeme, FixedWord, Identifier, Literal, IsNumeral}

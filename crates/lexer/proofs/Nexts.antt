@@ -7,7 +7,8 @@ use Rattle.std.specs.Prelude.{nat_le}
 use Rattle.std.specs.Str.Parse.{digits_value}
 use Rattle.std.proofs.lemmas.List.Prefix.{front_fits}
 use Rattle.lexer.specs.Words.{is_white_space, is_identifier, may_begin}
-use Rattle.lexer.specs.KindOf.{kind_of, keyword_of, sign_of}
+use Rattle.lexer.specs.KindOf.{kind_of}
+use Rattle.lexer.specs.KindRows.{keyword_of, sign_of}
 use Rattle.unicode_ident.specs.Ident.{is_xid_continue}
 use Rattle.lexer.specs.Lexeme.{Lexeme, Word, Gap, OpenComment, IsLexeme, Blank, LineComment, BlockComment, Unended, Identifier, Literal, TooLarge, IsInLine, HasNoCommentEnd, IsNumeral}
 use Rattle.lexer.proofs.Closed.{IsClosed, open_before}

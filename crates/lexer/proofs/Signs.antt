@@ -7,7 +7,7 @@ use Rattle.std.specs.Str.{bytes_eq}
 use Rattle.std.proofs.lemmas.Bool.{cond-false}
 use Rattle.std.proofs.lemmas.Bool.Decides.{nat_tests}
 use Rattle.std.proofs.lemmas.Slice.Eq.{bytes_eq-Decides}
-use Rattle.lexer.specs.KindOf.{sign_rows}
+use Rattle.lexer.specs.KindRows.{sign_rows}
 use Rattle.lexer.specs.Scan.{IsNoDouble, IsNoTriple, begins_sign_of, has_front}
 
 abbrev pub head : List ℕ → ℕ

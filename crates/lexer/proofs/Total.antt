@@ -11,7 +11,8 @@ use Rattle.lexer.specs.Lexeme.{Lexeme, Word, Gap, LargeLiteral, OpenComment}
 use Rattle.lexer.specs.Cut.{Cuts, Nothing, Token, Between, IsNextLexeme, IsCut, IsRefusedFor, terminal_at, size}
 use Rattle.lexer.specs.Laws.{IsCutOrRefused}
 use Rattle.lexer.specs.Scan.{after_close, after_run, IsNoDouble, IsNoTriple, IsStuck}
-use Rattle.lexer.specs.KindOf.{kind_of, sign_of}
+use Rattle.lexer.specs.KindOf.{kind_of}
+use Rattle.lexer.specs.KindRows.{sign_of}
 use Rattle.lexer.specs.TokenKind.{TokenKind, End}
 use Rattle.lexer.specs.declared.token.Kind.{Kind}
 use Rattle.common.specs.declared.refusal.RefusalAt.{RefusalAt}

@@ -10,4 +10,5 @@ pub mod Scan
 pub mod Terminal
 pub mod TokenKind
 pub mod KindOf
+pub mod KindRows
 pub mod Words

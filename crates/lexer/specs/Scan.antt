@@ -5,7 +5,8 @@ use Rattle.std.specs.List.{list_any}
 use Rattle.std.specs.Char.{is_ascii_digit}
 use Rattle.lexer.specs.Words.{is_white_space, may_begin}
 use Rattle.unicode_ident.specs.Ident.{is_xid_continue}
-use Rattle.lexer.specs.KindOf.{kind_of, sign_of, sign_rows}
+use Rattle.lexer.specs.KindOf.{kind_of}
+use Rattle.lexer.specs.KindRows.{sign_of, sign_rows}
 use Rattle.lexer.specs.Lexeme.{Lexeme, Word, Gap}
 use Rattle.lexer.specs.Cut.{IsNextLexeme, IsRefusedFor}
 use Rattle.common.specs.declared.refusal.RefusalAt.{RefusalAt}

@@ -1,4 +1,4 @@
-ghost use Rattle.lexer.specs.KindOf.{keyword_of};
+ghost use Rattle.lexer.specs.KindRows.{keyword_of};
 ghost use Rattle.lexer.specs.Words.{is_name_text, is_identifier, may_begin};
 ghost use Rattle.unicode_ident.specs.Ident.{is_xid_continue};
 ghost use Rattle.std.specs.Prelude.{◌≡◌, None, Some, bytes_eq, cond, length, slice_index};

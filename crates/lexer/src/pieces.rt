@@ -1,6 +1,6 @@
 //! The next lexeme of a text. A private part of the lexer.
 ghost use Rattle.lexer.specs.Cut.{IsRefusedFor};
-ghost use Rattle.lexer.specs.KindOf.{sign_of};
+ghost use Rattle.lexer.specs.KindRows.{sign_of};
 ghost use Rattle.lexer.specs.Scan.{holds, after_run, after_close, begins_sign, begins_sign_of, IsStopped, IsDouble, IsNoDouble, IsTriple, IsNoTriple, IsTail, Reads, IsStuck, Stops};
 ghost use Rattle.lexer.specs.declared.pieces.Class.TheVariants.{NamePart};
 ghost use Rattle.unicode_ident.specs.Ident.{is_xid_continue};

@@ -10,7 +10,7 @@ use Rattle.resolved.specs.Program.{Program, ProcedureEntry, ResultEntry, procedu
 use Rattle.resolved.specs.SourceState as source
 use Rattle.resolved.specs.Value.{base_of}
 use Rattle.resolved.specs.Exits.{thrown_exits, declared_by}
-use Rattle.resolved.specs.ExitFaults.{exit_faults}
+use Rattle.resolved.specs.Labelled.{exit_faults}
 use Rattle.resolved.specs.Meaning.{Outcome, Ended, Stopped, Deep, OutOfFuel, leaving, entering, calls_with, block_meaning}
 use Rattle.resolved.specs.WellFormed.{well_formed, parameters_of, has_result, same_base}
 use Rattle.resolved.specs.Kinds.{StateFits, OutcomeFits, ArgumentsFit}
@@ -25,7 +25,7 @@ use Rattle.isolation.proofs.Valued.{calls-give}
 use Rattle.modules.specs.declared.value.Cell.{Cell}
 use Rattle.modules.specs.declared.instruction.Instruction.TheVariants as instruction
 use Rattle.modules.specs.Machine as machine
-use Rattle.modules.specs.Machine.{Machine, Running, State, Caller, Header, handled, unwound, enters, popped, new_frame}
+use Rattle.modules.specs.Machine.{Machine, Running, Caller, handled, unwound, enters, popped}
 use Rattle.modules.specs.MachineParts.{calls}
 use Rattle.lowering.specs.Interface.{slot_contents}
 use Rattle.lowering.specs.Code.{block_falls, block_size, block_code, block_table}

@@ -11,8 +11,8 @@ use Rattle.resolved.specs.declared.statement.Exit.TheVariants.{Normal, Return, B
 use Rattle.common.specs.declared.base_type.BaseType.TheVariants.{Boolean}
 use Rattle.resolved.specs.Tree.{Expression, Statement, Assign, Clear, Store, Receive, Send, Call, If, While, Leave, ReturnWith, Try, Nested, Block, Empty, Then, Handlers, NoMore, Catch}
 use Rattle.resolved.specs.Program.{Program, ProcedureEntry}
-use Rattle.resolved.specs.Exits.{same_exit, has_exit, raises, thrown_exits, passes, then_exits, statement_exits, block_exits, handlers_exits}
-use Rattle.resolved.specs.ExitFaults.{fault_unless, block_faults, handlers_faults}
+use Rattle.resolved.specs.Exits.{same_exit, has_exit, raises, thrown_exits, passes, then_exits, statement_exits, block_exits, handlers_exits, fault_unless}
+use Rattle.resolved.specs.ExitFaults.{block_faults, handlers_faults}
 use Rattle.resolved.specs.declared.fault.ExitRefusalKind.TheVariants.{OutsideLoop, Unreachable, NeverRaised}
 use Rattle.resolved.specs.WellFormed.{has_base, is_exception, statement_fits, block_fits, handlers_fit}
 use Rattle.modules.specs.declared.instruction.Instruction.{Instruction}

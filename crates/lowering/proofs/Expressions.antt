@@ -16,7 +16,7 @@ use Rattle.common.specs.declared.operator.Connective.{Connective}
 use Rattle.common.specs.declared.operator.Connective.TheVariants.{And, Or}
 use Rattle.resolved.specs.Tree.{Expression, Integer, Logical, Read, Element, Unary, Binary, Short}
 use Rattle.resolved.specs.SourceState as source
-use Rattle.resolved.specs.SourceState.{value_of, values_of, cells, cell_at}
+use Rattle.resolved.specs.SourceState.{value_of}
 use Rattle.resolved.specs.Value.{Evaluated, Yields, literal_number, base_of, prefix_value, operator_value, or_arith, decides}
 use Rattle.resolved.specs.WellFormed.{variable_type, has_base, same_base, array_by, prefix_base, operand_base, result_base}
 use Rattle.resolved.specs.Kinds.{StateFits}
@@ -25,7 +25,8 @@ use Rattle.modules.specs.declared.value.Cell.{Cell}
 use Rattle.modules.specs.declared.value.Cell.TheVariants as cell
 use Rattle.modules.specs.declared.instruction.Instruction.{Instruction}
 use Rattle.modules.specs.declared.instruction.Instruction.TheVariants as instruction
-use Rattle.modules.specs.Machine.{Machine, act, goes_on, operates}
+use Rattle.modules.specs.Machine.{Machine, act, goes_on}
+use Rattle.modules.specs.MachineParts.{operates}
 use Rattle.modules.specs.Operators as operators
 use Rattle.std.specs.Option.{option_map}
 use Rattle.lowering.specs.Expressions.{load_element_of, prefix_instruction, operator_instruction, value_size, value_code, rest_of_short}

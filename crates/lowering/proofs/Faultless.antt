@@ -8,14 +8,15 @@ use Rattle.resolved.specs.declared.expression.Variable.{Variable}
 use Rattle.resolved.specs.declared.expression.Variable.TheVariants.{Global, Local}
 use Rattle.resolved.specs.declared.statement.Exit.TheVariants.{Normal}
 use Rattle.resolved.specs.Program.{Program, ProcedureEntry, ResultEntry}
-use Rattle.resolved.specs.Exits.{has_exit, block_exits}
-use Rattle.resolved.specs.ExitFaults.{fault_unless, block_faults, procedure_faults, exit_faults}
+use Rattle.resolved.specs.Exits.{has_exit, block_exits, fault_unless}
+use Rattle.resolved.specs.ExitFaults.{block_faults, procedure_faults}
+use Rattle.resolved.specs.Labelled.{exit_faults}
 use Rattle.resolved.specs.FaultParts.{may_exit}
 use Rattle.resolved.specs.declared.fault.ExitRefusalKind.TheVariants.{NoValueReturned, Undeclared}
 use Rattle.resolved.specs.WellFormed.{variable_type, well_formed, block_fits}
 use Rattle.resolved.proofs.WellFormedParts as parts
 use Rattle.modules.specs.Contents.{ChannelContents, ProcedureContents, ModuleContents}
-use Rattle.modules.specs.Machine.{slot_of}
+use Rattle.modules.specs.MachineParts.{slot_of}
 use Rattle.modules.specs.declared.instruction.Instruction.TheVariants as instruction
 use Rattle.layout.specs.Graph.{HasPositions}
 use Rattle.layout.specs.Offsets.{laid_out_procedure, laid_out}
@@ -42,6 +43,7 @@ use Rattle.lowering.proofs.States.{slot_of_type}
 use Rattle.lowering.proofs.Standing.{Sound, sound-flows, sound-instructions, sound-handlers}
 use Rattle.common.proofs.Cases.{append_empty, there_map_only}
 use Rattle.resolved.proofs.Exits.{no_fault-test}
+use Rattle.resolved.proofs.Judged.{faults-apart}
 use Rattle.isolation.proofs.Valued.{faultless-there}
 
 -- ---- lists
@@ -155,7 +157,7 @@ sound-at program formed none k g e =
     let entry = from.0 in
     let positions = all-at HasPositions (graph_of program).procedures k g (graphs-positioned program formed none) e in
     subst (Sound (laid_out (graph_of program))) from.2
-    (body-sound program formed entry (parts.procedure_there program formed k entry from.1).body_fits (faultless-there program program.procedures none k entry from.1)
+    (body-sound program formed entry (parts.procedure_there program formed k entry from.1).body_fits (faultless-there program program.procedures (sym (faults-apart program) ∙ none) k entry from.1)
     (subst HasPositions (sym from.2) positions))
 
 pub modules-are-not-refused : ModulesAreNotRefused

@@ -16,7 +16,8 @@ use Rattle.common.specs.declared.direction.Direction.TheVariants.{Input, Output}
 use Rattle.common.proofs.Cases.{all_front, pairs_front}
 use Rattle.modules.specs.Contents.{ChannelContents}
 use Rattle.modules.specs.ByteFormat.{Fits}
-use Rattle.modules.specs.Format.{is_among, is_built_in, direction, label, channel_after, channels, channel_names, declared}
+use Rattle.modules.specs.Format.{is_among, direction, label, channel_after, declared}
+use Rattle.modules.specs.FormatParts.{exceptions as exceptions_field, is_built_in, channels, channel_names}
 use Rattle.lowering.specs.Interface.{channel_contents}
 use Rattle.lowering.proofs.Fronts.{FitEach-from_fronts, All-at_seam, not_among_front}
 use Rattle.lowering.proofs.FittingNames.{kept_name, after_different, none_in_front, not_contained, name_fits, exceptions_fit}
@@ -25,8 +26,8 @@ use Rattle.common.specs.Exceptions.{built_in_names}
 
 direction_fits : (d : Direction) → Fits direction d
 unfolding direction
-direction_fits Input = ((omega arith, refl), refl)
-direction_fits Output = ((omega arith, refl), refl)
+direction_fits Input = refl
+direction_fits Output = refl
 
 -- the names that a channel may not have
 abbrev taken_by : List (List ℕ) → List ℕ → Bool
@@ -102,7 +103,7 @@ pub declared-fits : (h : PrincipalHierarchy) (names : List (List ℕ)) (entries 
     → AllDifferent (built_in_names ++ (names ++ map (λ (entry : ChannelEntry). entry.name) entries))
     → All (λ (entry : ChannelEntry). IsCanonicalLabel entry.label) entries
     → Fits (declared (length h.names)) (names, map channel_contents entries)
-unfolding declared
+unfolding declared exceptions_field channels
 declared-fits h names entries few exceptions some small fits short different canonical =
     let kept = names ++ map name_of entries in
     let apart : AllDifferent kept = after_different built_in_names kept different in

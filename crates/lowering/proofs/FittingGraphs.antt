@@ -20,7 +20,8 @@ use Rattle.modules.specs.declared.declaration.Handler.{Handler}
 use Rattle.common.specs.declared.base_type.BaseType.{BaseType}
 use Rattle.common.specs.declared.base_type.BaseType.TheVariants as kind
 use Rattle.modules.specs.ByteFormat.{Fits, FitEach, Code}
-use Rattle.modules.specs.Format.{returned, handler, handlers, procedure, procedures, may_start, main, program as program_field, version as version_field, contents, module_file}
+use Rattle.modules.specs.Format.{returned, handler, procedure, main, version as version_field, module_file}
+use Rattle.modules.specs.FormatParts.{globals, handlers, procedures, may_start}
 use Rattle.modules.specs.declared.version.Version.{Version}
 use Rattle.modules.specs.declared.version.Version.TheVariants.{One, Two}
 use Rattle.modules.specs.Targets.{renamed_instruction}
@@ -104,15 +105,15 @@ renamed-each version f (x ∷ code) h = (renamed-numbered version f x h.0, renam
 
 returned-fits : (result : Option BaseType) → Fits returned result
 unfolding returned
-returned-fits None = ((omega arith, refl), refl)
-returned-fits (Some kind.Int) = ((omega arith, refl), refl)
-returned-fits (Some kind.Boolean) = ((omega arith, refl), refl)
+returned-fits None = refl
+returned-fits (Some kind.Int) = refl
+returned-fits (Some kind.Boolean) = refl
 
 -- a procedure of a program whose tables are not too long
 procedure-fits : (version : Version) (program : Program) (entry : ProcedureEntry) → HasShortTables program entry → procedure_nodes entry ≤ 1048576
     → ProcedureParts program entry → HasPositions (procedure_contents program entry) → Allows version (block_uses_bits entry.body)
     → Fits (procedure version) (procedure_contents program entry)
-unfolding procedure
+unfolding procedure handlers
 procedure-fits version program entry short few parts placed allowed =
     let body = entry.body in
     let code = threaded (body_code program body) in
@@ -222,7 +223,7 @@ version-fits Two = ((omega arith, refl), refl)
 
 pub graph-fits : (program : Program) → well_formed program ≡ true → HasNames program → HasShortValues program
     → All HasPositions (graph_of program).procedures → Fits module_file (graph_of program)
-unfolding module_file contents program_field
+unfolding module_file globals procedures
 graph-fits program formed names values placed =
     let parts = program_parts program formed in
     let counts = counts-from program (leb-true (program_nodes program) node_limit parts.nodes_fit) in

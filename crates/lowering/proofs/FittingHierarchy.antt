@@ -12,7 +12,8 @@ use Rattle.principals.specs.Named.{IsKeptName}
 use Rattle.labels.specs.Sets.{ascending_set}
 use Rattle.labels.proofs.Ascending.{ascending_set-sorted}
 use Rattle.modules.specs.ByteFormat.{Fits}
-use Rattle.modules.specs.Format.{is_above, pair_cmp, pair_after, hierarchy}
+use Rattle.modules.specs.Format.{is_above, pair_cmp, hierarchy}
+use Rattle.modules.specs.FormatParts.{principals, pair_after}
 use Rattle.lowering.specs.Interface.{hierarchy_contents}
 use Rattle.lowering.proofs.Fronts.{FitEach-from_fronts, All-at_seam, above_from_sorted}
 use Rattle.lowering.proofs.FittingNames.{principals_fit, number_fits}
@@ -65,7 +66,7 @@ pair_fits count front x few there above =
     ((number_fits count x.0 few there.0, number_fits count x.1 few there.1), above)
 
 pub hierarchy-fits : (h : PrincipalHierarchy) → IsHierarchy h → All IsKeptName h.names → Fits hierarchy (hierarchy_contents h)
-unfolding hierarchy
+unfolding hierarchy principals pair_after
 hierarchy-fits h is each =
     let count = length h.names in
     let pairs = ascending_set pair_cmp h.pairs in

@@ -1,9 +1,9 @@
 -- The labels of a graph's channels are within the limits of the module file.
-use Rattle.std.proofs.Common.{◌≡◌, ◌≢◌, ℕ, ◌+◌, ◌^◌, ◌<◌, ◌≤◌, true, not, ltb, eqb, List, [], ◌∷◌, length, get_or, refl, subst, arith, sum_by}
+use Rattle.std.proofs.Common.{◌≡◌, ◌≢◌, ℕ, ◌+◌, ◌^◌, ◌<◌, ◌≤◌, true, ltb, eqb, List, [], ◌∷◌, length, get_or, refl, subst, arith, sum_by}
 use Rattle.std.specs.Prelude.{All, Contains}
 use Rattle.std.specs.List.Sorted.{IsStrictlySortedBy}
 use Rattle.std.specs.Ordering.{nat_cmp}
-use Rattle.std.proofs.lemmas.Bool.{and_from, and_parts, not_from_false, false_from_ne_true, ltb-true, eqb-true}
+use Rattle.std.proofs.lemmas.Bool.{and_parts, not_from_false, false_from_ne_true, ltb-true, eqb-true}
 use Rattle.std.proofs.lemmas.List.Elements.{All-weaker, Contains-get_or}
 use Rattle.std.proofs.lemmas.List.Sums.{sum_by-cons, get_or-le-sum_by, AllPass-from_list_all}
 use Rattle.std.proofs.lemmas.Map.Keys.{sorted_from_strictly_increasing}
@@ -12,7 +12,8 @@ use Rattle.labels.specs.Label.{ReaderPolicy, Label}
 use Rattle.labels.specs.Canonical.{policy_cmp, IsCanonicalPolicy, IsCanonicalLabel}
 use Rattle.resolved.specs.WellFormed.{policy_fits, label_fits, label_nodes}
 use Rattle.modules.specs.ByteFormat.{Fits}
-use Rattle.modules.specs.Format.{is_above, reader_after, policy_after, label}
+use Rattle.modules.specs.Format.{is_above, policy as policy_field, label}
+use Rattle.modules.specs.FormatParts.{reader_after, policy_after}
 use Rattle.lowering.proofs.Fronts.{FitEach-from_fronts, All-at_seam, above_from_sorted}
 use Rattle.lowering.proofs.FittingNames.{number_fits}
 
@@ -21,7 +22,7 @@ use Rattle.lowering.proofs.FittingNames.{number_fits}
 reader_fits : (count owner : ℕ) (front : List ℕ) (reader : ℕ) → count ≤ 256 → reader < count → reader ≢ owner → is_above nat_cmp front reader ≡ true → Fits (reader_after count owner front) reader
 unfolding reader_after
 reader_fits count owner front reader few there other above =
-    (number_fits count reader few there, and_from (not (eqb reader owner)) _ (not_from_false _ (false_from_ne_true _ (λ e. other (eqb-true reader owner e)))) above)
+    ((number_fits count reader few there, not_from_false _ (false_from_ne_true _ (λ e. other (eqb-true reader owner e)))), above)
 
 -- a policy of principals that are there, in the form in which it is kept, with not too many readers
 pub record IsFitPolicy (count : ℕ) (policy : ReaderPolicy) : Type 0 where
@@ -34,7 +35,7 @@ others : (owner : ℕ) (readers : List ℕ) → ¬ Contains readers owner → Al
 others owner readers h k d lt = λ e. h (subst (Contains readers) e (Contains-get_or readers k d lt))
 
 fit_policy : (count : ℕ) (front : List ReaderPolicy) (policy : ReaderPolicy) → count ≤ 256 → IsFitPolicy count policy → is_above policy_cmp front policy ≡ true → Fits (policy_after count front) policy
-unfolding policy_after
+unfolding policy_after policy_field reader_after
 fit_policy count front policy few h above =
     let sorted : IsStrictlySortedBy nat_cmp policy.readers = sorted_from_strictly_increasing policy.readers h.canonical.readers_ascend in
     let beside : All (λ reader. reader ≢ policy.owner) policy.readers = others policy.owner policy.readers h.canonical.owner_left_out in
@@ -49,7 +50,7 @@ record IsFitLabel (count : ℕ) (policies : Label) : Type 0 where
   each : All (IsFitPolicy count) policies
 
 fit_label : (count : ℕ) (policies : Label) → count ≤ 256 → IsFitLabel count policies → Fits (label count) policies
-unfolding label
+unfolding label policy_after
 fit_label count policies few h = (
   h.few,
   refl,

@@ -11,7 +11,8 @@ use Rattle.principals.specs.ActsFor.{AllDifferent}
 use Rattle.principals.specs.Named.{IsKeptName}
 use Rattle.resolved.specs.Names.{IsShortName}
 use Rattle.modules.specs.ByteFormat.{Fits}
-use Rattle.modules.specs.Format.{is_among, name_after, number_below, principals, exceptions, is_built_in}
+use Rattle.modules.specs.Format.{is_among, name_after, number_below}
+use Rattle.modules.specs.FormatParts.{principals, exceptions, is_built_in}
 use Rattle.lowering.proofs.Fronts.{FitEach-from_fronts, All-at_seam, not_among_front}
 use Rattle.common.specs.Exceptions.{built_in_names}
 

@@ -1,7 +1,7 @@
 -- The globals and slots of a graph are within the limits of the module file.
 use Rattle.std.proofs.Common.{◌≡◌, ℕ, ◌+◌, ◌<◌, ◌≤◌, Bool, true, false, ◌&&◌, ◌||◌, ltb, leb, eqb, List, [], ◌∷◌, ◌++◌, length, map, take, Option, Some, None, refl, sym, ap, ◌∙◌, subst, arith, sum_by}
-use Rattle.std.specs.Prelude.{All, FitsSigned, is_none, nat_lt, if◌then◌else◌}
-use Rattle.std.specs.Int.{w32, cast_signed}
+use Rattle.std.specs.Prelude.{All, FitsSigned, is_none, if◌then◌else◌}
+use Rattle.std.specs.Int.{w32}
 use Rattle.std.specs.List.{list_all}
 use Rattle.std.proofs.lemmas.Bool.{and_from, and_parts, false_from_ne_true, le-leb, leb-true, leb-false, ltb-true, eqb-true}
 use Rattle.std.proofs.lemmas.Int.{to_z-of_z}
@@ -14,15 +14,15 @@ use Rattle.resolved.specs.declared.expression.Value.{Value}
 use Rattle.resolved.specs.declared.expression.Value.TheVariants.{Number, Truth}
 use Rattle.resolved.specs.Program.{GlobalEntry, SlotEntry}
 use Rattle.resolved.specs.WellFormed.{size_fits, cell_count, label_fits, first_fits, written_fits, parameter_fits}
-use Rattle.modules.specs.declared.fault.FormatRefusalKind.TheVariants.{BadValue}
 use Rattle.common.specs.declared.base_type.BaseType.{BaseType}
 use Rattle.common.specs.declared.base_type.BaseType.TheVariants as kind
 use Rattle.modules.specs.declared.declaration.Slot.{Slot}
 use Rattle.modules.specs.declared.declaration.Slot.TheVariants as slot
 use Rattle.modules.specs.declared.declaration.Global.{Global}
 use Rattle.modules.specs.declared.declaration.Global.TheVariants as global
-use Rattle.modules.specs.ByteFormat.{Fits, Number as NumberField, Checked}
-use Rattle.modules.specs.Format.{cells_of_size, is_size, variable_kind, of_scalar, first_value, global_of, global_fields, global_cells, global_after, globals, slot_of, slot_fields, slot_cells, slot_after, slots}
+use Rattle.modules.specs.ByteFormat.{Fits}
+use Rattle.modules.specs.Format.{any, cells_of_size, is_size, variable_kind, slot_beside, global_fields, global_after, slot_of, slot_fields, slot_cells, slots}
+use Rattle.modules.specs.FormatParts.{global_cells, globals, slot_after}
 use Rattle.lowering.specs.Interface.{declared_slot, slot_contents, scalar_global, declared_global, global_contents}
 use Rattle.lowering.specs.Fitting.{IsShortValue}
 use Rattle.lowering.proofs.Fronts.{FitEach-made, All-at_seam, passes_at_seam, passes_among_first, sum_at_seam}
@@ -31,8 +31,8 @@ use Rattle.lowering.proofs.Fronts.{FitEach-made, All-at_seam, passes_at_seam, pa
 
 pub kind-fits : (k : BaseType) → Fits variable_kind k
 unfolding variable_kind
-kind-fits kind.Int = ((omega arith, refl), refl)
-kind-fits kind.Boolean = ((omega arith, refl), refl)
+kind-fits kind.Int = refl
+kind-fits kind.Boolean = refl
 
 size-tested : (cells size : ℕ) → size ≤ 65536 → cells + cells_of_size size ≤ 1048576 → is_size cells size ≡ true
 size-tested cells size few room = and_from _ _ (le-leb size 65536 few) (le-leb (cells + cells_of_size size) 1048576 room)
@@ -61,40 +61,51 @@ cells-mapped f g h test each (x ∷ xs) passed =
     let parts = and_parts (test x) (list_all test xs) passed in
     omega (arith, sum_by-cons f (g x) (map g xs), sum_by-cons h x xs, each x parts.0, cells-mapped f g h test each xs parts.1)
 
+-- ---- slots after others
+
+scalar-beside : (cells : ℕ) (test : ℕ → Bool) (k : BaseType) → cells + 1 ≤ 1048576 → test 0 ≡ true → Fits (slot_beside cells test) (slot.Scalar k)
+unfolding slot_beside
+scalar-beside cells test k room passes =
+    ((kind-fits k, (omega arith, and_from _ _ (size-tested cells 0 (omega arith) room) passes)), refl)
+
+array-again : (k : BaseType) (size : ℕ) → 0 < size → slot_of (k, size) ≡ slot.Array k size
+array-again k size some = ap (λ b. if b then slot.Scalar k else slot.Array k size) (not_none size some)
+
+array-beside : (cells : ℕ) (test : ℕ → Bool) (k : BaseType) (size : ℕ) → IsLength size → cells + cells_of_size size ≤ 1048576 → test size ≡ true → Fits (slot_beside cells test) (slot.Array k size)
+unfolding slot_beside
+array-beside cells test k size long room passes =
+    ((kind-fits k, (omega (arith, long.few), and_from _ _ (size-tested cells size long.few room) passes)), array-again k size long.some)
+
 -- ---- globals
 
 int_global-fits : (before : List Global) (z : _) → FitsSigned w32 z → global_cells before + 1 ≤ 1048576 → Fits (global_after before) (global.Int z)
 unfolding global_after
 int_global-fits before z short room =
-    ((kind-fits kind.Int, ((omega arith, size-tested (global_cells before) 0 (omega arith) room), Fits-lt-pow (Fits-of_z short))), ap (λ n. global.Int n) (to_z-of_z w32 z short))
+    ((scalar-beside (global_cells before) any kind.Int room refl, Fits-lt-pow (Fits-of_z short)), ap (λ n. global.Int n) (to_z-of_z w32 z short))
 
 boolean_global-fits : (before : List Global) (b : Bool) → global_cells before + 1 ≤ 1048576 → Fits (global_after before) (global.Boolean b)
 unfolding global_after
-boolean_global-fits before true room =
-    ((kind-fits kind.Boolean, ((omega arith, size-tested (global_cells before) 0 (omega arith) room), (omega arith, refl))), refl)
-boolean_global-fits before false room =
-    ((kind-fits kind.Boolean, ((omega arith, size-tested (global_cells before) 0 (omega arith) room), (omega arith, refl))), refl)
-
--- what an array has in place of a first value
-first-none : (k : BaseType) (size : ℕ) → 0 < size → Fits (first_value k size) 0
-first-none kind.Int size some = subst (λ b. Fits (of_scalar b NumberField) 0) (sym (not_none size some)) refl
-first-none kind.Boolean size some =
-    subst (λ b. Fits (of_scalar b (Checked BadValue (λ n. nat_lt n 2) NumberField)) 0) (sym (not_none size some)) refl
-
-array-again : (k : BaseType) (size : ℕ) → 0 < size → global_of (k, (size, 0)) ≡ global.Array k size
-array-again kind.Int size some =
-    ap (λ b. if b then global.Int (cast_signed w32 0) else global.Array kind.Int size) (not_none size some)
-array-again kind.Boolean size some =
-    ap (λ b. if b then global.Boolean (eqb 0 1) else global.Array kind.Boolean size) (not_none size some)
+boolean_global-fits before true room = ((scalar-beside (global_cells before) any kind.Boolean room refl, (omega arith, refl)), refl)
+boolean_global-fits before false room = ((scalar-beside (global_cells before) any kind.Boolean room refl, (omega arith, refl)), refl)
 
 array_global-fits : (before : List Global) (k : BaseType) (size : ℕ) → IsLength size → global_cells before + cells_of_size size ≤ 1048576 → Fits (global_after before) (global.Array k size)
 unfolding global_after
-array_global-fits before k size long room =
-    ((kind-fits k, ((omega (arith, long.few), size-tested (global_cells before) size long.few room), first-none k size long.some)), array-again k size long.some)
+array_global-fits before k size long room = ((array-beside (global_cells before) any k size long room refl, refl), refl)
 
--- the cells of a global of a graph
+-- the cells of a slot of a graph, and of a global
+abbrev cells_of_slot : Slot → ℕ
+cells_of_slot s = cells_of_size (slot_fields s).1
+
+abbrev slot_in : Global → Slot
+slot_in g = (global_fields g).0
+
 abbrev cells_of_global : Global → ℕ
-cells_of_global g = cells_of_size (global_fields g).1.0
+cells_of_global g = cells_of_size (slot_fields (global_fields g).0).1
+
+-- those of some globals, one by one
+global_cells-sum : (all : List Global) → global_cells all ≡ sum_by cells_of_global all
+global_cells-sum [] = refl
+global_cells-sum (g ∷ all) = omega (arith, sum_by-cons cells_of_slot (slot_in g) (map slot_in all), sum_by-cons cells_of_global g all, global_cells-sum all)
 
 global_cells-are : (entry : GlobalEntry) (size : Option ℕ) → size_fits size ≡ true → cells_of_global (declared_global entry.base size entry.first) ≡ cell_count size
 global_cells-are entry None h = by entry.first
@@ -140,7 +151,7 @@ globals-fit h entries few fits room short = (
       let cells = cells-mapped cells_of_global global_contents counted_global (λ (entry : GlobalEntry). size_fits entry.size) (λ entry h. let same = global_cells-are entry entry.size h in omega (arith, same)) front
       (front-sizes front entry rest all) in
       global-fits (map global_contents front) entry entry.size size (All-at_seam front entry rest (λ (entry : GlobalEntry). IsShortValue entry.first) (subst (All (λ (entry : GlobalEntry). IsShortValue entry.first)) e short))
-      (omega (arith, room, total, cells, sum_at_seam counted_global front entry rest))),
+      (omega (arith, room, total, cells, global_cells-sum (map global_contents front), sum_at_seam counted_global front entry rest))),
 )
   where
     front-sizes : (front : List GlobalEntry) (entry : GlobalEntry) (rest : List GlobalEntry) → list_all (is_fit_global h) (front ++ entry ∷ rest) ≡ true → list_all (λ (entry : GlobalEntry). size_fits entry.size) front ≡ true
@@ -153,24 +164,12 @@ globals-fit h entries few fits room short = (
 
 scalar_slot-fits : (parameters : ℕ) (before : List Slot) (k : BaseType) → slot_cells before + 1 ≤ 1048576 → Fits (slot_after parameters before) (slot.Scalar k)
 unfolding slot_after
-scalar_slot-fits parameters before k room =
-    let any : (leb parameters (length before) || true) ≡ true = or-true (leb parameters (length before)) in
-    ((kind-fits k, (omega arith, and_from _ _ (size-tested (slot_cells before) 0 (omega arith) room) any)), scalar-again k)
-  where
-    scalar-again : (k : BaseType) → slot_of (k, 0) ≡ slot.Scalar k
-    scalar-again k = refl
-
-array_slot-again : (k : BaseType) (size : ℕ) → 0 < size → slot_of (k, size) ≡ slot.Array k size
-array_slot-again k size some = ap (λ b. if b then slot.Scalar k else slot.Array k size) (not_none size some)
+scalar_slot-fits parameters before k room = scalar-beside (slot_cells before) _ k room (or-true (leb parameters (length before)))
 
 array_slot-fits : (parameters : ℕ) (before : List Slot) (k : BaseType) (size : ℕ) → IsLength size → parameters ≤ length before → slot_cells before + cells_of_size size ≤ 1048576 → Fits (slot_after parameters before) (slot.Array k size)
 unfolding slot_after
 array_slot-fits parameters before k size long beyond room =
-    let past : (leb parameters (length before) || eqb size 0) ≡ true = ap (λ b. b || eqb size 0) (le-leb parameters (length before) beyond) in
-    ((kind-fits k, (omega (arith, long.few), and_from _ _ (size-tested (slot_cells before) size long.few room) past)), array_slot-again k size long.some)
-
-abbrev cells_of_slot : Slot → ℕ
-cells_of_slot s = cells_of_size (slot_fields s).1
+    array-beside (slot_cells before) _ k size long room (ap (λ b. b || eqb size 0) (le-leb parameters (length before) beyond))
 
 slot_cells-are : (entry : SlotEntry) (size : Option ℕ) → size_fits size ≡ true → cells_of_slot (declared_slot entry.base size) ≡ cell_count size
 slot_cells-are entry None h = refl
@@ -203,7 +202,7 @@ pub slots-fit : (h : PrincipalHierarchy) (parameters : ℕ) (entries : List Slot
     → list_all parameter_fits (take parameters entries) ≡ true
     → list_all (λ (entry : SlotEntry). size_fits entry.size && written_fits h entry.written) entries ≡ true
     → sum_by (λ (entry : SlotEntry). cell_count entry.size) entries ≤ 1048576 → Fits (slots parameters) (map slot_contents entries)
-unfolding slots
+unfolding slots slot_after
 slots-fit h parameters entries few there written fits room = (
   omega (arith, few, length-map entries slot_contents),
   le-leb _ _ (omega (arith, there, length-map entries slot_contents)),

@@ -23,9 +23,9 @@ use Rattle.modules.specs.declared.value.Cell.{Cell}
 use Rattle.modules.specs.declared.declaration.Slot.{Slot}
 use Rattle.modules.specs.declared.declaration.Slot.TheVariants as slot
 use Rattle.modules.specs.Values.{has_kind, zero_of}
-use Rattle.modules.specs.Contents.{ProcedureContents, ModuleContents}
-use Rattle.modules.specs.Machine.{Caller, Header, header_of, handler_for, slot_of, popped, first_cells, first_slots}
-use Rattle.modules.specs.MachineParts.{code_of, handlers_of, slots_of, kinds_of, first_slot}
+use Rattle.modules.specs.Contents.{ProcedureContents}
+use Rattle.modules.specs.Machine.{Caller, Header, header_of, handler_for, popped, first_cells, first_slots}
+use Rattle.modules.specs.MachineParts.{slot_of, code_of, handlers_of, slots_of, kinds_of, first_slot}
 use Rattle.layout.specs.Runs.{graph_program}
 use Rattle.lowering.specs.Interface.{declared_slot, slot_contents, global_contents, scalar_global, channel_contents}
 use Rattle.lowering.specs.Code.{block_table}

@@ -3,6 +3,7 @@ use Rattle.std.proofs.Common.{◌≡◌, ℕ, zero, suc, ◌+◌, ◌-◌, ◌<�
 use Rattle.std.specs.List.{list_all}
 use Rattle.std.specs.Prelude.{All, bytes_eq, slice_get}
 use Rattle.std.specs.List.Sorted.{IsStrictlySortedBy}
+use Rattle.std.specs.Ordering.{is_lt}
 use Rattle.std.specs.declared.cmp.Ordering.{Ordering}
 use Rattle.std.specs.declared.cmp.Ordering.TheVariants.{Less}
 use Rattle.std.proofs.lemmas.Bool.{false_from_ne_true, and_parts}
@@ -15,7 +16,7 @@ use Rattle.std.proofs.lemmas.Option.{slice_get-get_or}
 use Rattle.std.proofs.lemmas.Slice.Eq.{bytes_eq-Decides}
 use Rattle.principals.specs.ActsFor.{AllDifferent}
 use Rattle.modules.specs.ByteFormat.{FitEach}
-use Rattle.modules.specs.Format.{is_less, is_above, is_among}
+use Rattle.modules.specs.Format.{is_above, is_among}
 
 each_from : {A : Type 0} (P : List A → A → Type 0) (before xs : List A) → ((front : List A) (x : A) (rest : List A) → before ++ xs ≡ front ++ x ∷ rest → P front x) → FitEach P before xs
 each_from P before [] h = tt
@@ -52,8 +53,8 @@ above_front {A} cmp front x rest sorted k d e =
     let last : slice_get front (length front - 1) ≡ Some (get_or front k d) = ap (slice_get front) (omega (arith, e)) ∙ slice_get-get_or front k d (omega (arith, e)) in
     let below : cmp (get_or (front ++ x ∷ rest) k d) (get_or (front ++ x ∷ rest) (length front) d) ≡ Less = Less-from_sorted cmp (front ++ x ∷ rest) k (length front) d sorted (omega (arith, e)) (within_seam front x rest) in
     let here : get_or (front ++ x ∷ rest) k d ≡ get_or front k d = get_or_append_left front (x ∷ rest) d k (omega (arith, e)) in
-    ap (λ (o : Option A). option_map_or (λ y. is_less (cmp y x)) o true) last
-    ∙ ap is_less ((λ i. cmp (sym here i) (sym (at_seam front x rest d) i)) ∙ below)
+    ap (λ (o : Option A). option_map_or (λ y. is_lt (cmp y x)) o true) last
+    ∙ ap is_lt ((λ i. cmp (sym here i) (sym (at_seam front x rest d) i)) ∙ below)
 
 pub above_from_sorted : {A : Type 0} (cmp : A → A → Ordering) (front : List A) (x : A) (rest : List A) → IsStrictlySortedBy cmp (front ++ x ∷ rest) → is_above cmp front x ≡ true
 above_from_sorted cmp [] x rest sorted = refl

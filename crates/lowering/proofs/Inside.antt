@@ -12,8 +12,9 @@ use Rattle.resolved.specs.declared.statement.Exit.{Exit}
 use Rattle.resolved.specs.declared.statement.Exit.TheVariants.{Normal, Return, Break, Continue, Throw}
 use Rattle.resolved.specs.Tree.{Expression, Statement, Assign, Clear, Store, Receive, Send, Call, If, While, Leave, ReturnWith, Try, Nested, Block, Empty, Then, Handlers, NoMore, Catch}
 use Rattle.resolved.specs.Program.{Program, ProcedureEntry, ResultEntry, procedure_at}
-use Rattle.resolved.specs.Exits.{same_exit, has_exit, statement_exits, block_exits}
-use Rattle.resolved.specs.ExitFaults.{fault_unless, block_faults, handlers_faults, procedure_faults, exit_faults}
+use Rattle.resolved.specs.Exits.{same_exit, has_exit, statement_exits, block_exits, fault_unless}
+use Rattle.resolved.specs.ExitFaults.{block_faults, handlers_faults, procedure_faults}
+use Rattle.resolved.specs.Labelled.{exit_faults}
 use Rattle.resolved.specs.declared.fault.ExitRefusalKind.TheVariants.{OutsideLoop, Unreachable, NeverRaised, NoValueReturned, Undeclared}
 use Rattle.resolved.specs.WellFormed.{has_base, is_exception, statement_fits, block_fits, handlers_fit, procedure_fits}
 use Rattle.resolved.proofs.WellFormedParts.{program_parts, procedure_parts, passes_at}
@@ -32,6 +33,7 @@ use Rattle.lowering.proofs.Targets.{Below, Stays, none-below, more-below, one-be
 use Rattle.lowering.proofs.Unreached.{statement-none}
 use Rattle.common.proofs.Cases.{by_test, append_empty}
 use Rattle.resolved.proofs.Exits.{no_fault-test, faults-in_parts}
+use Rattle.resolved.proofs.Judged.{faults-apart}
 
 -- ---- truth values
 
@@ -281,7 +283,7 @@ body-faultless program k d none below =
     let ends = block_exits program procedure.body in
     let value = fault_unless (not (is_some procedure.result && has_exit ends Normal)) NoValueReturned procedure.at in
     let declared = fault_unless (list_all (may_exit procedure) ends) Undeclared procedure.at in
-    let faults = append_empty (block_faults program false true procedure.body ++ value) declared (faultless-at program program.procedures k d none below) in
+    let faults = append_empty (block_faults program false true procedure.body ++ value) declared (faultless-at program program.procedures k d (sym (faults-apart program) ∙ none) below) in
     (append_empty (block_faults program false true procedure.body) value faults.0).0
 
 pub graphs-positioned : GraphsHavePositions

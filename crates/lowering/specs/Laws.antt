@@ -6,7 +6,7 @@ use Rattle.layout.specs.Offsets.{laid_out}
 use Rattle.layout.specs.Runs.{graph_after_steps}
 use Rattle.modules.specs.ByteFormat.{Fits}
 use Rattle.modules.specs.Format.{module_file}
-use Rattle.resolved.specs.ExitFaults.{exit_faults}
+use Rattle.resolved.specs.Labelled.{exit_faults}
 use Rattle.resolved.specs.Names.{HasNames}
 use Rattle.resolved.specs.Program.{Program}
 use Rattle.resolved.specs.WellFormed.{well_formed}

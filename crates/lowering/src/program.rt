@@ -6,7 +6,7 @@ ghost use Rattle.lowering.specs.Graphs.{graph_of};
 ghost use Rattle.lowering.specs.Interface.{HasInterfaceOf};
 ghost use Rattle.lowering.specs.SameMeaning.{SameMeaning};
 ghost use Rattle.resolved.specs.CoreOf.{program_of};
-ghost use Rattle.resolved.specs.ExitFaults.{exit_faults};
+ghost use Rattle.resolved.specs.Labelled.{exit_faults};
 ghost use Rattle.resolved.specs.Names.{HasNames};
 ghost use Rattle.std.specs.Prelude.{All, IfOk, [], ◌≡◌};
 ghost use Rattle.verifier.specs.Refusals.{IsNotRefused};

@@ -3,7 +3,8 @@ use Rattle.std.proofs.Common.{List, [], ◌∷◌, ◌++◌, refl, lit<}
 use Rattle.std.specs.List.{AllByRecursion}
 use Rattle.modules.specs.Contents.{ProcedureContents, ModuleContents}
 use Rattle.modules.specs.ByteFormat.{Fits, FitEach}
-use Rattle.modules.specs.Format.{procedure, procedures, program, contents, version, module_file}
+use Rattle.modules.specs.Format.{procedure, version, module_file}
+use Rattle.modules.specs.FormatParts.{procedures}
 use Rattle.modules.specs.Opcodes.{HasSpelling, entry_of}
 use Rattle.modules.specs.declared.instruction.Instruction.{Instruction}
 use Rattle.modules.specs.declared.version.Version.{Version}
@@ -33,7 +34,7 @@ unfolding version
 second = ((lit< tt, refl), refl)
 
 pub later_module : (m : ModuleContents) → Fits module_file m → Fits module_file (record m { version = Two })
-unfolding module_file contents program
+unfolding module_file procedures
 later_module m h =
     let all = h.0.1.1.1 in
     ((second, (h.0.1.0, (h.0.1.1.0, (all.0, (later_procedures m.version m.procedures all.1.0, all.1.1))))), refl)

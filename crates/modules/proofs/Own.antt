@@ -15,7 +15,8 @@ use Rattle.common.specs.declared.sent.Pair.{Pair}
 use Rattle.labels.proofs.Carried.{own-label}
 use Rattle.modules.specs.Contents.{ChannelContents, ModuleContents}
 use Rattle.modules.specs.ByteFormat.{Fits, FitEach}
-use Rattle.modules.specs.Format.{module_file, contents, declared, channels, channel_after, hierarchy, principals, pair_after, number_below, name_after, label, policy_after, reader_after, is_among}
+use Rattle.modules.specs.Format.{module_file, declared, channel_after, hierarchy, number_below, name_after, policy, label, is_among}
+use Rattle.modules.specs.FormatParts.{channels, principals, pair_after, policy_after, reader_after}
 use Rattle.modules.specs.Isolated.{IsIsolated, StaysIsolated, channel_label, channel_label_under, module_view}
 use Rattle.modules.specs.MachineParts.{label_in}
 
@@ -59,7 +60,7 @@ pairs-there count pairs h =
     along _ (AllBelow count) (λ before x there fits. All-push (λ (pair : ℕ × ℕ). (pair.0 < count) × (pair.1 < count)) before x there (ltb-true _ _ fits.0.0.1, ltb-true _ _ fits.0.1.1)) [] pairs (λ k d inside. absurd (omega arith)) h
 
 is-hierarchy : (h : PrincipalHierarchy) → Fits hierarchy h → IsHierarchy h
-unfolding hierarchy
+unfolding hierarchy principals pair_after
 is-hierarchy h fits = record {
   few = names-few h.names fits.0.0;
   different = names-different h.names fits.0.0;
@@ -71,10 +72,10 @@ is-hierarchy h fits = record {
 readers-there : (count owner : ℕ) (readers : List ℕ) → FitEach (λ before x. Fits (reader_after count owner before) x) [] readers → All (λ reader. reader < count) readers
 unfolding reader_after number_below
 readers-there count owner readers h =
-    along _ (λ (xs : List ℕ). All (λ reader. reader < count) xs) (λ before x there fits. All-push (λ (reader : ℕ). reader < count) before x there (ltb-true _ _ fits.0.1)) [] readers (λ k d inside. absurd (omega arith)) h
+    along _ (λ (xs : List ℕ). All (λ reader. reader < count) xs) (λ before x there fits. All-push (λ (reader : ℕ). reader < count) before x there (ltb-true _ _ fits.0.0.1)) [] readers (λ k d inside. absurd (omega arith)) h
 
 label-there : (h : PrincipalHierarchy) (policies : Label) → Fits (label (length h.names)) policies → IsLabelOf h policies
-unfolding label policy_after number_below
+unfolding label policy policy_after reader_after number_below
 label-there h policies fits =
     along _ (IsLabelOf h) (λ before x there fits. All-push (IsPolicyOf h) before x there (ltb-true _ _ fits.0.0.0.1, readers-there (length h.names) x.owner x.readers fits.0.0.1.2))
     [] policies (λ k d inside. absurd (omega arith)) fits.2
@@ -88,11 +89,11 @@ channels-there h names all fits =
 -- ---- the module
 
 pub module-hierarchy : (m : ModuleContents) → Fits module_file m → IsHierarchy m.hierarchy
-unfolding module_file contents
+unfolding module_file
 module-hierarchy m fits = is-hierarchy m.hierarchy fits.0.1.0
 
 pub module-labels : (m : ModuleContents) → Fits module_file m → All (λ channel. IsLabelOf m.hierarchy channel.label) m.channels
-unfolding module_file contents declared
+unfolding module_file declared channels
 module-labels m fits = channels-there m.hierarchy m.exceptions m.channels fits.0.1.1.0.1
 
 -- the label of a channel, also of one that is not there

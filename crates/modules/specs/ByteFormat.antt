@@ -3,7 +3,7 @@
 -- Source: our own.
 use Rattle.std.specs.Prelude.{◌≡◌, ℕ, zero, suc, ◌-◌, ◌^◌, ◌<◌, Bool, true, List, [], ◌∷◌, ◌++◌, length, take, drop, Option, Some, None, Result, Ok, Err, nat_lt, ◌==◌, if◌then◌else◌}
 use Rattle.std.specs.Int.{w32, to_be_bytes, from_be_bytes}
-use Rattle.std.specs.List.{flat_map, AllByRecursion}
+use Rattle.std.specs.List.{flat_map, position_or_len, slice_get, AllByRecursion}
 use Rattle.modules.specs.Opcodes.{Coding, instructions, code_bytes, HasSpelling}
 use Rattle.modules.specs.declared.version.Version.{Version}
 use Rattle.modules.specs.declared.instruction.Instruction.{Instruction}
@@ -13,8 +13,8 @@ use Rattle.modules.specs.declared.fault.FormatRefusalKind.TheVariants.{Short, Ba
 
 -- a format of values of a type
 pub data ByteFormat : Type 0 → Type 1 where
-  -- one byte
-  Byte : ByteFormat ℕ
+  -- one byte, which is the number of one of these values, told apart by a test
+  OneOf : {A : Type 0} → (A → A → Bool) → List A → ByteFormat A
   -- a number in four bytes, the highest first
   Number : ByteFormat ℕ
   -- a length, and that many bytes
@@ -43,7 +43,7 @@ spelled_each one before (x ∷ xs) = one before x ++ spelled_each one (before ++
 
 -- the bytes that spell a value that fits the format
 abbrev pub spelled : {A : Type 0} → ByteFormat A → A → List ℕ
-spelled Byte b = b ∷ []
+spelled (OneOf same values) x = position_or_len (same x) values ∷ []
 spelled Number n = to_be_bytes w32 n
 spelled Text text = to_be_bytes w32 (length text) ++ text
 spelled (Nothing a) x = []
@@ -62,7 +62,7 @@ FitEach one before (x ∷ xs) = one before x × FitEach one (before ++ x ∷ [])
 
 -- the values of the format
 abbrev pub Fits : {A : Type 0} → ByteFormat A → A → Type 0
-Fits Byte b = b < 256
+Fits (OneOf same values) x = slice_get values (position_or_len (same x) values) ≡ Some x
 Fits Number n = n < 2 ^ 32
 Fits Text text = length text < 2 ^ 32
 Fits (Nothing a) x = x ≡ a
@@ -127,7 +127,7 @@ each_at one (suc count) before bytes = do
   x ← one before bytes
   each_at one count (before ++ x.0 ∷ []) x.1
 
--- what an operand was found to spell; where it has no meaning, a refusal at the operand
+-- what a byte or an operand was found to spell; where it has no meaning, a refusal at it
 abbrev pub meant : {A : Type 0} → Option A → List ℕ → List ℕ → Read A
 meant None bytes rest = Err (stop_at BadValue bytes)
 meant (Some x) bytes rest = Ok (x, rest)
@@ -155,7 +155,9 @@ code_at coding (suc more) (suc room) before bytes = do
 
 -- a value of the format at the front, and the bytes after it, or the first refusal
 abbrev pub read : {A : Type 0} → ByteFormat A → List ℕ → Read A
-read Byte bytes = byte_at bytes
+read (OneOf same values) bytes = do
+  number ← byte_at bytes
+  meant (slice_get values number.0) bytes number.1
 read Number bytes = number_at bytes
 read Text bytes = do
   size ← number_at bytes

@@ -11,6 +11,7 @@ pub mod Operators
 pub mod Opcodes
 pub mod Code
 pub mod Format
+pub mod FormatParts
 pub mod Machine
 pub mod MachineParts
 pub mod Isolated

@@ -119,8 +119,8 @@ pub fn entry_of(instruction: Instruction) -> OpcodeEntry
 
 fn operator_entry(operator: MachineOperator) -> OpcodeEntry
     ensures since { result.since ≡ (operator_opcode operator).0 }
-    ensures byte { result.byte ≡ (operator_opcode operator).1 }
-    ensures name { result.name.now ≡ (operator_opcode operator).2 }
+    ensures byte { result.byte ≡ (operator_opcode operator).1.0 }
+    ensures name { result.name.now ≡ (operator_opcode operator).1.1 }
     ensures operand { result.operand ≡ Operand.Absent }
 {
     match operator {

@@ -1,5 +1,5 @@
 //! Lists with tokens of a kind between their elements.
-ghost use Rattle.std.specs.Prelude.{ℕ, map};
+ghost use Rattle.std.specs.Prelude.{◌≡◌, ℕ, [], map};
 ghost use Rattle.lexer.specs.Terminal.{terminals_of};
 ghost use Rattle.lexer.specs.KindOf.{text_of};
 ghost use Rattle.syntax.specs.Form.{Form};
@@ -22,6 +22,14 @@ pub(crate) trait Listed<'a>: Sized + Drop {
     fn parse<'t>(parser: &mut Parser<'t, 'a>) -> Result<Self, ParseFault>
         ensures { (room : ℕ) → IsRead tree result parser.new.rest.now
             (read room form (terminals_of parser.old.rest.now)) };
+}
+
+/// A list of nothing, which takes no memory.
+#[inline(always)]
+pub fn empty_list<'a, T>() -> &'a [T]
+    ensures { result.now ≡ [] }
+{
+    &[]
 }
 
 impl<'t, 'a> Parser<'t, 'a> {

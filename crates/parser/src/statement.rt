@@ -4,35 +4,36 @@ ghost use Rattle.lexer.specs.Terminal.{terminals_of};
 ghost use Rattle.syntax.specs.Form.{many, ◌·◌, ◌gives◌};
 ghost use Rattle.syntax.specs.Grammar.{expression, arguments, integer, condition, size, block, catch, index, separated, ◌▸◌, ◌◂◌, optional, some};
 ghost use Rattle.parser.specs.Parts.{receive, send, conditional, while_statement, break_statement, continue_statement, throw_statement, return_statement, attempt, catches};
-ghost use Rattle.syntax.specs.Tree.{name_tree, optional_label_tree, expression_tree, optional_expression_tree, right_tree, size_tree, statement_tree, block_tree, optional_block_tree, catch_tree, NestedTree};
+ghost use Rattle.syntax.specs.Tree.{name_tree, expression_tree, optional_expression_tree, right_tree, size_tree, statement_tree, block_tree, optional_block_tree, catch_tree, NestedTree};
 ghost use Rattle.parser.specs.Factored.{AtIndexTree};
-ghost use Rattle.parser.specs.Reading.{IsRead, read, maps, right_read, right_after, is_at, first_read, first_tree, after_read, after_tree, declare_read, named_read, statement_read, begins_statement, begins_expression, kind_at};
+ghost use Rattle.parser.specs.Reading.{IsRead, read, right_read, right_after, is_at, first_read, first_tree, after_read, after_tree, declare_read, named_read, statement_read, begins_statement, begins_expression, kind_at};
 
 use crate::cursor::Parser;
 use crate::fault::ParseFault;
+use crate::listed::empty_list;
 use lexer::Kind;
 use std::alloc::AllocError;
-use syntax::{Block, Call, Catch, Expression, Name, RightSide, Size, Statement};
+use syntax::{Block, Call, Catch, Element, Expression, Name, RightSide, Size, Statement};
 
 // A list of this many statements is long.
 const LONG: usize = 1024;
 
 /// What stands after the name of a local.
-#[derive(Drop)]
+#[derive(Clone, Copy)]
 pub enum First<'a> {
     Value(RightSide<'a>),
     Array(Size),
 }
 
 /// What stands after the name that a statement begins with.
-#[derive(Drop)]
+#[derive(Clone, Copy)]
 pub enum After<'a> {
     Assigned(RightSide<'a>),
     Element {
         index: Expression<'a>,
         value: Expression<'a>,
     },
-    Arguments(Vec<Expression<'a>>),
+    Arguments(&'a [Expression<'a>]),
 }
 
 /// Makes room for one more statement in a block. For the last one no room is made for more, and a long list grows fourfold, so that fewer
@@ -90,18 +91,21 @@ impl<'t, 'a> Parser<'t, 'a> {
     }
 
     /// One expression or more, with commas between them.
-    fn parse_some_expressions(&mut self, room: u32) -> Result<Vec<Expression<'a>>, ParseFault>
-        ensures { IsRead (λ list. map expression_tree list.items) result self.new.rest.now
+    fn parse_some_expressions(&mut self, room: u32) -> Result<&'a [Expression<'a>], ParseFault>
+        ensures { IsRead (λ list. map expression_tree list.now) result self.new.rest.now
             (read room (separated "," expression) (terminals_of self.old.rest.now)) }
     {
-        let mut expressions = Vec::new(self.alloc);
         let first = self.parse_expression(room)?;
+        if !self.is_at(Kind::Comma) {
+            return Ok(self.arena.try_alloc_slice_copy(&[first])?);
+        }
+        let mut expressions = Vec::new(self.alloc);
         expressions.push(first)?;
         while self.is_at(Kind::Comma) {
             let expression = self.parse_another_expression(room)?;
             expressions.push(expression)?;
         }
-        Ok(expressions)
+        Ok(self.arena.try_alloc_slice_copy(expressions.as_slice())?)
     }
 
     #[tactic(auto, unfolding(syntax::specs::Grammar::condition, crate::specs::Reading::read))]
@@ -303,8 +307,15 @@ impl<'t, 'a> Parser<'t, 'a> {
         let token = self.expect(Kind::If)?;
         let condition = self.parse_condition(room)?;
         let accepted = self.parse_block(room)?;
-        let otherwise = self.parse_otherwise(room)?;
-        Ok(Statement::make_if(token.start, condition, accepted, otherwise))
+        match self.parse_otherwise(room)? {
+            None => Ok(Statement::make_if(token.start, condition, accepted)),
+            Some(otherwise) => Ok(Statement::make_if_else(
+                token.start,
+                condition,
+                accepted,
+                Box::new(self.alloc, otherwise)?,
+            )),
+        }
     }
 
     #[cycle(statement)]
@@ -423,20 +434,20 @@ impl<'t, 'a> Parser<'t, 'a> {
     }
 
     #[tactic(auto, using(crate::proofs::Blocks::expressions_reads))]
-    fn parse_expressions(&mut self, room: u32) -> Result<Vec<Expression<'a>>, ParseFault>
-        ensures { IsRead (λ list. map expression_tree list.items) result self.new.rest.now
+    fn parse_expressions(&mut self, room: u32) -> Result<&'a [Expression<'a>], ParseFault>
+        ensures { IsRead (λ list. map expression_tree list.now) result self.new.rest.now
             (read room (some "," expression) (terminals_of self.old.rest.now)) }
     {
         if self.is_at_expression() {
             return self.parse_some_expressions(room);
         }
-        Ok(Vec::new(self.alloc))
+        Ok(empty_list())
     }
 
     /// The arguments of a call, in parentheses.
     #[tactic(auto, using(crate::proofs::Blocks::arguments_reads))]
-    fn parse_arguments(&mut self, room: u32) -> Result<Vec<Expression<'a>>, ParseFault>
-        ensures { IsRead (λ list. map expression_tree list.items) result self.new.rest.now
+    fn parse_arguments(&mut self, room: u32) -> Result<&'a [Expression<'a>], ParseFault>
+        ensures { IsRead (λ list. map expression_tree list.now) result self.new.rest.now
             (read room arguments (terminals_of self.old.rest.now)) }
     {
         self.enter(Kind::OpenParenthesis, room)?;
@@ -458,10 +469,12 @@ impl<'t, 'a> Parser<'t, 'a> {
     {
         if self.is_at(Kind::OpenParenthesis) {
             let arguments = self.parse_arguments(room)?;
-            return Ok(RightSide::Call(Call {
-                procedure: name,
-                arguments,
-            }));
+            return Ok(RightSide::Call(
+                self.arena.try_alloc(Call {
+                    procedure: name,
+                    arguments,
+                })?,
+            ));
         }
         let first = self.parse_indexed(name, room)?;
         let value = self.climb(first, room)?;
@@ -527,21 +540,21 @@ impl<'t, 'a> Parser<'t, 'a> {
             (terminals_of self.old.rest.now)) }
     {
         let (at, base) = self.parse_base()?;
-        let label = self.parse_optional_label()?;
+        let label = self.parse_local_label()?;
         let name = self.parse_name()?;
         let first = self.parse_first_value(room)?;
         self.expect(Kind::Semicolon)?;
         Ok(match first {
             First::Value(value) => Statement::Declare {
-                at,
                 base,
+                at,
                 label,
                 name,
                 value,
             },
             First::Array(size) => Statement::DeclareArray {
-                at,
                 base,
+                at,
                 label,
                 name,
                 size,
@@ -597,8 +610,7 @@ impl<'t, 'a> Parser<'t, 'a> {
                 value,
             },
             After::Element { index, value } => Statement::AssignElement {
-                array: name,
-                index,
+                element: self.arena.try_alloc(Element { array: name, index })?,
                 value,
             },
             After::Arguments(arguments) => Statement::Call(Call {

@@ -18,8 +18,8 @@ use Rattle.resolved.specs.declared.tables.Procedure.{Procedure}
 use Rattle.labels.specs.Label.{Label}
 use Rattle.resolved.specs.Program.{Program, ProcedureEntry}
 use Rattle.resolved.specs.ProgramOf.{result_entry, procedure_entry}
-use Rattle.resolved.specs.Exits.{has_exit, declared_by, block_exits}
-use Rattle.resolved.specs.ExitFaults.{fault_unless, block_faults, procedure_faults}
+use Rattle.resolved.specs.Exits.{has_exit, declared_by, block_exits, fault_unless}
+use Rattle.resolved.specs.ExitFaults.{block_faults, procedure_faults}
 use Rattle.resolved.specs.FaultParts.{may_exit}
 use Rattle.resolved.specs.declared.fault.ExitRefusalKind.TheVariants.{NoValueReturned, Undeclared}
 use Rattle.path_map.specs.declared.exits.Raised.TheVariants.{Several}

@@ -10,8 +10,8 @@ use Rattle.resolved.specs.declared.statement.Exit.{Exit}
 use Rattle.resolved.specs.declared.statement.Exit.TheVariants.{Normal, Return, Break, Continue, Throw}
 use Rattle.resolved.specs.Tree.{Statement, Block, Empty, Then, Handlers, NoMore, Catch}
 use Rattle.resolved.specs.Program.{Program}
-use Rattle.resolved.specs.Exits.{same_exit, has_exit, thrown_exits, then_exits, leaves_loop, handles, passes, statement_exits, block_exits, handlers_exits}
-use Rattle.resolved.specs.ExitFaults.{fault_unless, block_faults, handlers_faults}
+use Rattle.resolved.specs.Exits.{same_exit, has_exit, thrown_exits, then_exits, leaves_loop, handles, passes, statement_exits, block_exits, handlers_exits, fault_unless}
+use Rattle.resolved.specs.ExitFaults.{block_faults, handlers_faults}
 use Rattle.common.specs.declared.refusal.RefusalAt.{RefusalAt}
 use Rattle.resolved.specs.declared.fault.ExitRefusalKind.{ExitRefusalKind}
 use Rattle.path_map.specs.declared.exits.Raised.{Raised}

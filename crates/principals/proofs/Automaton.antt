@@ -7,7 +7,8 @@ use Rattle.std.proofs.lemmas.Option.{none-some, same_Some, some_pair_parts}
 use Rattle.std.proofs.lemmas.Slice.Eq.{bytes_eq-Decides}
 use Rattle.lexer.specs.Terminal.{Terminal, IsTerminated}
 use Rattle.lexer.proofs.Fixed.{coded_kind, one_word}
-use Rattle.lexer.specs.KindOf.{kind_of, code_of}
+use Rattle.lexer.specs.KindOf.{kind_of}
+use Rattle.lexer.specs.KindRows.{code_of}
 use Rattle.lexer.specs.TokenKind as token
 use Rattle.lexer.specs.TokenKind.{word_of}
 use Rattle.lexer.specs.declared.token.Kind.{Kind}

@@ -3,7 +3,7 @@ use Rattle.std.specs.Prelude.{◌≡◌, ℕ, ◌≤◌, length, List, [], ◌�
 use Rattle.common.specs.declared.limits.TheConstants.{MAX_PRINCIPALS}
 use Rattle.principals.specs.ActsFor.{PrincipalHierarchy}
 use Rattle.std.specs.Option.{option_and_then}
-use Rattle.lexer.specs.KindOf.{code_of}
+use Rattle.lexer.specs.KindRows.{code_of}
 use Rattle.lexer.specs.Terminal.{Terminal, terminal_of}
 use Rattle.lexer.specs.declared.token.Kind.{Kind}
 use Rattle.lexer.specs.declared.token.Kind.TheVariants.{Name as NameKind, Comma as CommaKind, Semicolon as SemicolonKind, End as EndKind}

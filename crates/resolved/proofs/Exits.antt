@@ -6,7 +6,7 @@ use Rattle.std.proofs.lemmas.List.Folds.{list_any-append}
 use Rattle.std.proofs.lemmas.Map.Views.{any-filter_same}
 use Rattle.resolved.specs.declared.statement.Exit.{Exit}
 use Rattle.resolved.specs.declared.statement.Exit.TheVariants.{Normal, Return, Break, Continue, Throw}
-use Rattle.resolved.specs.ExitFaults.{fault_unless, block_faults, handlers_faults}
+use Rattle.resolved.specs.ExitFaults.{block_faults, handlers_faults}
 use Rattle.resolved.specs.FaultParts.{place_of, may_stand, inner_faults}
 use Rattle.resolved.specs.Tree.{Statement, Assign, Clear, Store, Receive, Send, Call, If, While, Leave, ReturnWith, Try, Nested, Block}
 use Rattle.resolved.specs.Tree as tree
@@ -16,7 +16,7 @@ use Rattle.resolved.specs.declared.fault.ExitRefusalKind.TheVariants as kind
 use Rattle.resolved.specs.declared.fault.ExitRefusalKind.{ExitRefusalKind}
 use Rattle.resolved.specs.Labelled.{thrown_label}
 use Rattle.std.specs.Prelude.{if◌then◌else◌, ◌==◌}
-use Rattle.resolved.specs.Exits.{has_exit, same_exit, then_exits, thrown_exits, statement_exits, block_exits}
+use Rattle.resolved.specs.Exits.{has_exit, same_exit, then_exits, thrown_exits, statement_exits, block_exits, fault_unless}
 
 -- exits that the test takes for the same are the same
 pub same-exit : (a b : Exit) → same_exit a b ≡ true → a ≡ b

@@ -2,6 +2,7 @@ pub mod Cases
 pub mod Views
 pub mod Sound
 pub mod Exits
+pub mod Judged
 pub mod WellFormedParts
 pub mod Growing
 pub mod Measured

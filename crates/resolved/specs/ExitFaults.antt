@@ -1,6 +1,6 @@
--- What is wrong with the exits of a program's statements, in the order in which they are looked at.
+-- What the rules of statements find wrong with exits, alone and without labels, by which code and proofs speak of it.
 -- Source: our own.
-use Rattle.std.specs.Prelude.{ℕ, List, [], ◌∷◌, ◌++◌, Bool, true, false, not, ◌&&◌, ◌||◌, filter, flat_map, if◌then◌else◌, is_some}
+use Rattle.std.specs.Prelude.{List, [], ◌∷◌, ◌++◌, Bool, true, false, not, ◌&&◌, ◌||◌, filter, is_some}
 use Rattle.std.specs.List.{list_all}
 use Rattle.resolved.specs.declared.fault.ExitRefusalKind.{ExitRefusalKind}
 use Rattle.resolved.specs.declared.fault.ExitRefusalKind.TheVariants.{OutsideLoop, Unreachable, NeverRaised, NoValueReturned, Undeclared}
@@ -9,11 +9,7 @@ use Rattle.resolved.specs.declared.statement.Exit.{Exit}
 use Rattle.resolved.specs.declared.statement.Exit.TheVariants.{Normal, Return, Break, Continue, Throw}
 use Rattle.resolved.specs.Tree.{Statement, Assign, Clear, Store, Receive, Send, Call, If, While, Leave, ReturnWith, Try, Nested, Block, Empty, Then, Handlers, NoMore, Catch}
 use Rattle.resolved.specs.Program.{Program, ProcedureEntry}
-use Rattle.resolved.specs.Exits.{same_exit, has_exit, thrown_exits, declared_by, statement_exits, block_exits}
-
--- a fault, unless a test holds
-abbrev pub fault_unless : Bool → ExitRefusalKind → (at : ℕ) → List (RefusalAt ExitRefusalKind)
-fault_unless test kind at = if test then [] else (record { kind = kind; at = at } ∷ [])
+use Rattle.resolved.specs.Exits.{same_exit, has_exit, thrown_exits, fault_unless, declared_by, statement_exits, block_exits}
 
 -- the faults of statements, blocks and handlers. A statement is reached where the one before it can end normally; `break` and
 -- `continue` stand in a loop; the exits are those that the handlers before have not taken
@@ -60,7 +56,3 @@ procedure_faults program procedure =
     block_faults program false true procedure.body
     ++ fault_unless (not (is_some procedure.result && has_exit exits Normal)) NoValueReturned procedure.at
     ++ fault_unless (list_all (has_exit (Normal ∷ Return ∷ thrown_exits (declared_by procedure.throws))) exits) Undeclared procedure.at
-
--- all faults of a program's exits; the first is the one that is reported
-abbrev pub exit_faults : Program → List (RefusalAt ExitRefusalKind)
-exit_faults program = flat_map (procedure_faults program) program.procedures

@@ -1,11 +1,14 @@
--- The exits that a statement may have, found without running it.
+-- What makes an exit of a statement possible: which exits there are, which exceptions an expression can raise, and what loops and
+-- handlers take. The rules of statements give each its possible exits (`Labelled`).
 -- Source: our own rules; several exits of a statement as in JFlow (Myers 1999).
-use Rattle.std.specs.Prelude.{ℕ, List, [], ◌∷◌, ◌++◌, Bool, true, false, not, map, flat_map, filter, ◌==◌, ◌||◌, if◌then◌else◌, Some, None}
+use Rattle.std.specs.Prelude.{ℕ, List, [], ◌∷◌, ◌++◌, Bool, true, false, not, map, flat_map, filter, ◌==◌, ◌&&◌, ◌||◌, if◌then◌else◌, Some, None}
 use Rattle.std.specs.List.{list_any, list_all}
 use Rattle.common.specs.declared.operator.Prefix.TheVariants.{Negate}
 use Rattle.resolved.specs.declared.expression.Operator.{Operator}
 use Rattle.resolved.specs.declared.expression.Operator.TheVariants.{Compute}
 use Rattle.common.specs.declared.operator.Arithmetic.TheVariants.{Divide, Remainder}
+use Rattle.resolved.specs.declared.fault.ExitRefusalKind.{ExitRefusalKind}
+use Rattle.common.specs.declared.refusal.RefusalAt.{RefusalAt}
 use Rattle.resolved.specs.declared.statement.Exit.{Exit}
 use Rattle.resolved.specs.declared.statement.Exit.TheVariants.{Normal, Return, Break, Continue, Throw}
 use Rattle.resolved.specs.contracts.statement.ExitPartialEq.TheImpl.{eq-value}
@@ -45,19 +48,18 @@ is_division (Compute Divide) = true
 is_division (Compute Remainder) = true
 is_division other = false
 
--- the exceptions of an access with this index
-abbrev pub index_raises : Expression → (length : ℕ) → List ℕ
-index_raises index length = if index_can_raise index length then BOUNDS ∷ [] else []
+-- a list where a test holds, and none of it where it does not
+abbrev pub list_if : {A : Type 0} → Bool → List A → List A
+list_if test list = if test then list else []
 
 -- the exceptions that an expression can raise: those of all its parts
 abbrev pub raises : Expression → List ℕ
 raises (Integer n) = []
 raises (Logical b) = []
 raises (Read x) = []
-raises (Element array length index) = raises index ++ index_raises index length
+raises (Element array length index) = raises index ++ list_if (index_can_raise index length) (BOUNDS ∷ [])
 raises (Unary prefix e) = raises e
-raises (Binary operator d e) =
-    raises d ++ raises e ++ (if is_division operator then (if divisor_can_raise e then ARITH ∷ [] else []) else [])
+raises (Binary operator d e) = raises d ++ raises e ++ list_if (is_division operator && divisor_can_raise e) (ARITH ∷ [])
 raises (Short connective d e) = raises d ++ raises e
 
 abbrev pub thrown_exits : List ℕ → List Exit
@@ -66,6 +68,25 @@ thrown_exits exceptions = map (λ exception. Throw exception) exceptions
 -- the exceptions that a procedure declares
 abbrev pub declared_by : List ThrownEntry → List ℕ
 declared_by entries = map (λ (entry : ThrownEntry). entry.exception) entries
+
+-- the exceptions that handlers take
+abbrev pub taken_by : Handlers → List Exit
+taken_by NoMore = []
+taken_by (Catch at handled body rest) = Throw handled ∷ taken_by rest
+
+-- a fault, unless a test holds
+abbrev pub fault_unless : Bool → ExitRefusalKind → (at : ℕ) → List (RefusalAt ExitRefusalKind)
+fault_unless test kind at = if test then [] else (record { kind = kind; at = at } ∷ [])
+
+-- ---- what the rules give of exits alone, by which code and proofs speak of them
+
+-- the exceptions of an access with this index
+abbrev pub index_raises : Expression → (length : ℕ) → List ℕ
+index_raises index length = list_if (index_can_raise index length) (BOUNDS ∷ [])
+
+-- the exceptions of an operator with this right operand
+abbrev pub operator_raises : Operator → Expression → List ℕ
+operator_raises operator e = list_if (is_division operator && divisor_can_raise e) (ARITH ∷ [])
 
 -- whether an exit of a loop's body is one of the loop: every exit is but those that the loop takes
 abbrev pub leaves_loop : Exit → Bool
@@ -114,9 +135,3 @@ abbrev mutual
   pub handlers_exits : Program → Handlers → List Exit
   handlers_exits program NoMore = []
   handlers_exits program (Catch at handled body rest) = block_exits program body ++ handlers_exits program rest
-
--- ---- a part of the rules, by which proofs speak of them
-
--- the exceptions of an operator with this right operand
-abbrev pub operator_raises : Operator → Expression → List ℕ
-operator_raises operator e = if is_division operator then (if divisor_can_raise e then ARITH ∷ [] else []) else []

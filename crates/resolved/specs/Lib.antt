@@ -11,6 +11,7 @@ pub mod RefusalKinds
 pub mod ExitFaults
 pub mod FaultParts
 pub mod Labelled
+pub mod LabelRules
 pub mod Isolated
 pub mod TreeOf
 pub mod ProgramOf

@@ -18,8 +18,7 @@ use Rattle.resolved.specs.Tree.{Expression, Integer, Read, Binary, Short, Statem
 use Rattle.common.specs.declared.exceptions.TheConstants.{ARITH}
 use Rattle.resolved.specs.Program.{Program, ProcedureEntry, SlotEntry}
 use Rattle.resolved.specs.WellFormed.{well_formed}
-use Rattle.resolved.specs.ExitFaults.{exit_faults}
-use Rattle.resolved.specs.Labelled.{Labelled}
+use Rattle.resolved.specs.Labelled.{Labelled, exit_faults}
 
 -- a program that is well formed, has no fault of its exits, and is labelled
 pub record IsAcceptable (program : Program) : Type 0 where

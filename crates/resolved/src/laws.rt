@@ -2,12 +2,17 @@
 ghost use Rattle.lattices.specs.Constraints.{FitsAll, IsRefusedAt, StandsFor, reported_gathered, reported_steps};
 ghost use Rattle.labels.specs.LabelLattice.{label_lattice};
 ghost use Rattle.labels.specs.Label.{Label, ReaderPolicy};
+ghost use Rattle.resolved.specs.ExitFaults.{procedure_faults, statement_faults};
+ghost use Rattle.resolved.specs.Exits.{statement_exits};
 ghost use Rattle.resolved.specs.Flow.{AreGathered, AreLeast, FlowBothWays, Gathered, IsFlowChain, IsProgramRefused, IsUncovered, reported_step};
 ghost use Rattle.resolved.specs.Kinds.{MeaningKeepsTypes, RunsBeginTyped, ValuesHaveTheirTypes};
-ghost use Rattle.resolved.specs.Labelled.{Demand, Labelled, Unwritten, program_demands};
+ghost use Rattle.resolved.specs.LabelRules.{demands_from, statement_demands, statement_exit_labels};
+ghost use Rattle.resolved.specs.Labelled.{Demand, Join, Labelled, Scope, Unwritten, exit_faults, program_demands, rule_of, whole};
 ghost use Rattle.resolved.specs.Precise.{IsAcceptable, handler_of_one, raising_argument, short_circuit, two_normal_exits};
 ghost use Rattle.resolved.specs.Program.{Program};
-ghost use Rattle.std.specs.Prelude.{Contains, List, ℕ, ◌≡◌, ◌↔◌, ◌⊎◌};
+ghost use Rattle.resolved.specs.Tree.{Statement};
+ghost use Rattle.resolved.specs.declared.statement.Exit.{Exit};
+ghost use Rattle.std.specs.Prelude.{Bool, Contains, List, flat_map, ℕ, ◌≡◌, ◌↔◌, ◌⊎◌};
 
 /// In a state that fits the tables, an expression of a base type has a value of that type or raises an exception; the meaning of
 /// what fits goes from states that fit to states that fit; and a run begins in one. So no operator, condition, index, argument,
@@ -50,6 +55,27 @@ pub fn gathered_constraints_decide()
         (there : List Demand) × (d : Demand) × IsProgramRefused program policy there d
         × StandsFor gathered.number gathered.inner cs d last
         × (reported_gathered reported_step chain ≡ reported_steps reported_step there) }
+{}
+
+/// What code and proofs walk apart is what the rules say: the possible exits of a statement, the labels of its exits, its demands and
+/// its faults, and so the demands and the faults of a program.
+pub fn parts_are_those_of_the_rules()
+    ensures exits { (scope : Scope) (in_loop reached : Bool) (pc : Join) (statement : Statement) →
+        (rule_of scope in_loop reached pc statement).exits
+        ≡ statement_exits scope.program statement }
+    ensures labels { (scope : Scope) (in_loop reached : Bool) (pc : Join) (statement : Statement)
+        (exit : Exit) → (whole pc (rule_of scope in_loop reached pc statement)).labels exit
+        ≡ statement_exit_labels scope pc statement exit }
+    ensures demands { (scope : Scope) (in_loop reached : Bool) (pc : Join) (statement : Statement) →
+        (rule_of scope in_loop reached pc statement).demands
+        ≡ statement_demands scope pc statement }
+    ensures faults { (scope : Scope) (in_loop reached : Bool) (pc : Join) (statement : Statement) →
+        (rule_of scope in_loop reached pc statement).faults
+        ≡ statement_faults scope.program in_loop reached statement }
+    ensures all_demands { (program : Program) →
+        program_demands program ≡ demands_from program 0 program.procedures }
+    ensures all_faults { (program : Program) →
+        exit_faults program ≡ flat_map (procedure_faults program) program.procedures }
 {}
 
 /// What an over-strict rule would refuse is accepted: a short circuit whose right side raises nothing and a send after it; a call with

@@ -1,7 +1,7 @@
-ghost use Rattle.modules.specs.Machine.{first_global, slot_of};
+ghost use Rattle.modules.specs.Machine.{first_global};
+ghost use Rattle.modules.specs.MachineParts.{slot_of};
 ghost use Rattle.stack.specs.Globals.{HasPut};
 ghost use Rattle.stack.specs.Slab.{cell_at, cell_in, cell_index_in, total, with_cell_at};
-ghost use Rattle.std.specs.List.{flat_map};
 ghost use Rattle.std.specs.Prelude.{IfOk, OnOk, Some, is_some, length, map, ◌++◌, ◌<◌, ◌≡◌};
 
 use crate::shape::{Shape, repeat};

@@ -16,7 +16,7 @@ use Rattle.syntax.specs.declared.tree.RightSide.{RightSide}
 use Rattle.syntax.specs.declared.tree.RightSide.TheVariants as right_sides
 use Rattle.syntax.specs.declared.tree.Size.{Size}
 use Rattle.syntax.specs.declared.tree.Statement as declared_statement
-use Rattle.syntax.specs.declared.tree.Statement.{Statement, Row_of-Statement, end_of-Statement, more_of-Statement, Row_of-Catch, end_of-Catch, more_of-Catch, Held-Statement-If-3}
+use Rattle.syntax.specs.declared.tree.Statement.{Statement, Row_of-Statement, end_of-Statement, more_of-Statement, Row_of-Catch, end_of-Catch, more_of-Catch}
 use Rattle.syntax.specs.declared.tree.Block.{Block}
 use Rattle.syntax.specs.declared.tree.Catch.{Catch}
 use Rattle.common.specs.declared.direction.Direction.{Direction}
@@ -205,11 +205,11 @@ abbrev pub name_tree : Name → NameTree
 name_tree name = record { at = name.at; text = name.text.now }
 
 abbrev pub component_tree : Component → ComponentTree
-component_tree (components.Policy owner readers) = PolicyComponent (name_tree owner) (map name_tree readers.items)
+component_tree (components.Policy owner readers) = PolicyComponent (name_tree owner) (map name_tree readers.now)
 component_tree (components.Variable name) = VariableComponent (name_tree name)
 
 abbrev pub label_tree : WrittenLabel → LabelTree
-label_tree label = record { at = label.at; components = map component_tree label.components.items }
+label_tree label = record { at = label.at; components = map component_tree label.components.now }
 
 abbrev pub optional_label_tree : Option WrittenLabel → Option LabelTree
 optional_label_tree None = None
@@ -219,7 +219,7 @@ abbrev pub expression_tree : Expression → ExpressionTree
 expression_tree (declared_expression.Integer at value) = IntegerTree at value
 expression_tree (declared_expression.Truth at value) = TruthTree at value
 expression_tree (declared_expression.Variable name) = VariableTree (name_tree name)
-expression_tree (declared_expression.Element' array p index) = ElementTree (name_tree array) (expression_tree index)
+expression_tree (declared_expression.Element' p array index) = ElementTree (name_tree array) (expression_tree index)
 expression_tree (declared_expression.Unary' at operator p operand) = UnaryTree at operator (expression_tree operand)
 expression_tree (declared_expression.Binary' at operator p left right) =
     BinaryTree at operator (expression_tree left) (expression_tree right)
@@ -229,11 +229,11 @@ optional_expression_tree None = None
 optional_expression_tree (Some value) = Some (expression_tree value)
 
 abbrev pub call_tree : Call → CallTree
-call_tree call = record { procedure = name_tree call.procedure; arguments = map expression_tree call.arguments.items }
+call_tree call = record { procedure = name_tree call.procedure; arguments = map expression_tree call.arguments.now }
 
 abbrev pub right_tree : RightSide → RightTree
 right_tree (right_sides.Receive at channel) = ReceivedTree at (name_tree channel)
-right_tree (right_sides.Call call) = CalledTree (call_tree call)
+right_tree (right_sides.Call call) = CalledTree (call_tree call.now)
 right_tree (right_sides.Value value) = ValueTree (expression_tree value)
 
 abbrev pub size_tree : Size → SizeTree
@@ -245,18 +245,20 @@ if_tree at condition body otherwise = IfTree at condition body (unwrap_or otherw
 
 abbrev mutual
   pub statement_tree : Statement → StatementTree
-  statement_tree (declared_statement.Declare at base label name value) =
-      DeclareTree at base (optional_label_tree label) (name_tree name) (right_tree value)
-  statement_tree (declared_statement.DeclareArray at base label name size) =
-      DeclareArrayTree at base (optional_label_tree label) (name_tree name) (size_tree size)
+  statement_tree (declared_statement.Declare base at label name value) =
+      DeclareTree at base (optional_label_tree label.now) (name_tree name) (right_tree value)
+  statement_tree (declared_statement.DeclareArray base at label name size) =
+      DeclareArrayTree at base (optional_label_tree label.now) (name_tree name) (size_tree size)
   statement_tree (declared_statement.Assign target value) = AssignTree (name_tree target) (right_tree value)
-  statement_tree (declared_statement.AssignElement array index value) =
-      AssignElementTree (name_tree array) (expression_tree index) (expression_tree value)
+  statement_tree (declared_statement.AssignElement element value) =
+      AssignElementTree (name_tree element.now.array) (expression_tree element.now.index) (expression_tree value)
   statement_tree (declared_statement.Call call) = CallTree' (call_tree call)
   statement_tree (declared_statement.Receive at channel) = ReceiveTree at (name_tree channel)
   statement_tree (declared_statement.Send at channel value) = SendTree at (name_tree channel) (expression_tree value)
-  statement_tree (declared_statement.If' at condition first shape row otherwise) =
-      if_tree at (expression_tree condition) (BlockOf first (row_trees row)) (otherwise_tree otherwise)
+  statement_tree (declared_statement.If' at condition first shape row) =
+      if_tree at (expression_tree condition) (BlockOf first (row_trees row)) None
+  statement_tree (declared_statement.IfElse' at condition first shape row p second other others) =
+      if_tree at (expression_tree condition) (BlockOf first (row_trees row)) (Some (BlockOf second (row_trees others)))
   statement_tree (declared_statement.While' at condition first shape row) =
       WhileTree at (expression_tree condition) (BlockOf first (row_trees row))
   statement_tree (declared_statement.Break at) = BreakTree at
@@ -266,10 +268,6 @@ abbrev mutual
   statement_tree (declared_statement.Try' at first shape row others catches) =
       TryTree at (BlockOf first (row_trees row)) (catch_trees catches)
   statement_tree (declared_statement.Nested' first shape row) = NestedTree (BlockOf first (row_trees row))
-
-  pub otherwise_tree : Held-Statement-If-3 → Option BlockTree
-  otherwise_tree declared_statement.None' = None
-  otherwise_tree (declared_statement.Some' first shape row) = Some (BlockOf first (row_trees row))
 
   pub row_trees : {m : _} → Row_of-Statement m → StatementTrees
   row_trees end_of-Statement = NoStatement

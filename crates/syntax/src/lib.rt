@@ -8,7 +8,7 @@ pub mod tree;
 pub use line::Line;
 pub use program::Program;
 pub use tree::{
-    BinaryOperator, Block, Call, Catch, Channel, Component, Constant, Expression, GlobalValue,
-    GlobalVariable, Item, Name, Parameter, Procedure, RightSide, Size, Statement, Thrown,
-    WrittenLabel, WrittenResult,
+    BinaryOperator, Block, Call, Catch, Channel, Component, Constant, Element, Expression,
+    GlobalValue, GlobalVariable, Item, Name, Parameter, Procedure, RightSide, Size, Statement,
+    Thrown, WrittenLabel, WrittenResult,
 };

@@ -1,8 +1,8 @@
 //! The nodes of a syntax tree. Each node has the byte of the text at which it begins (`at`); a node that begins with another one has
 //! that one's. Names are slices of the source, so a tree lives no longer than that.
 
-ghost use Rattle.std.specs.Prelude.{◌≡◌, map};
-ghost use Rattle.syntax.specs.Tree.{expression_tree, expression_at, statement_tree, statement_at, item_tree, item_at, block_tree, optional_block_tree, catch_tree, catches_of, if_tree, WhileTree, TryTree, NestedTree};
+ghost use Rattle.std.specs.Prelude.{◌≡◌, map, None, Some};
+ghost use Rattle.syntax.specs.Tree.{expression_tree, expression_at, statement_tree, statement_at, item_tree, item_at, block_tree, catch_tree, catches_of, if_tree, WhileTree, TryTree, NestedTree};
 
 use common::{Arithmetic, BaseType, Comparison, Connective, Direction, Prefix};
 
@@ -14,22 +14,22 @@ pub struct Name<'a> {
 }
 
 /// A component of a label.
-#[derive(Debug, Drop)]
+#[derive(Clone, Copy, Debug)]
 pub enum Component<'a> {
     /// A policy: the owner, and the readers that the owner names.
     Policy {
         owner: Name<'a>,
-        readers: Vec<Name<'a>>,
+        readers: &'a [Name<'a>],
     },
     /// A variable, for the policies of its label.
     Variable(Name<'a>),
 }
 
 /// A label as it is written: its components, in the order of the text.
-#[derive(Debug, Drop)]
+#[derive(Clone, Copy, Debug)]
 pub struct WrittenLabel<'a> {
     pub at: usize,
-    pub components: Vec<Component<'a>>,
+    pub components: &'a [Component<'a>],
 }
 
 /// An operator between its operands.
@@ -42,6 +42,7 @@ pub enum BinaryOperator {
 
 /// An expression. Parentheses leave no trace. Its operands lie in the arena of its tree.
 #[derive(Clone, Copy, Debug)]
+#[cycle(expression)]
 pub enum Expression<'a> {
     Integer {
         at: usize,
@@ -52,10 +53,7 @@ pub enum Expression<'a> {
         value: bool,
     },
     Variable(Name<'a>),
-    Element {
-        array: Name<'a>,
-        index: &'a Expression<'a>,
-    },
+    Element(&'a Element<'a>),
     Unary {
         at: usize,
         operator: Prefix,
@@ -69,6 +67,14 @@ pub enum Expression<'a> {
     },
 }
 
+/// An element of an array.
+#[derive(Clone, Copy, Debug)]
+#[cycle(expression)]
+pub struct Element<'a> {
+    pub array: Name<'a>,
+    pub index: Expression<'a>,
+}
+
 impl<'a> Expression<'a> {
     /// The byte at which the expression begins.
     pub fn at(&self) -> usize
@@ -79,23 +85,24 @@ impl<'a> Expression<'a> {
             | Expression::Truth { at, .. }
             | Expression::Unary { at, .. }
             | Expression::Binary { at, .. } => *at,
-            Expression::Variable(name) | Expression::Element { array: name, .. } => name.at,
+            Expression::Variable(name) => name.at,
+            Expression::Element(element) => element.array.at,
         }
     }
 }
 
 /// A call of a procedure with its arguments.
-#[derive(Debug, Drop)]
+#[derive(Clone, Copy, Debug)]
 pub struct Call<'a> {
     pub procedure: Name<'a>,
-    pub arguments: Vec<Expression<'a>>,
+    pub arguments: &'a [Expression<'a>],
 }
 
 /// What is assigned: a number that is received, the value of a call, or that of an expression.
-#[derive(Debug, Drop)]
+#[derive(Clone, Copy, Debug)]
 pub enum RightSide<'a> {
     Receive { at: usize, channel: Name<'a> },
-    Call(Call<'a>),
+    Call(&'a Call<'a>),
     Value(Expression<'a>),
 }
 
@@ -106,23 +113,24 @@ pub struct Size {
     pub size: u32,
 }
 
-/// A statement. What is caught by a `try` stands in the order of the text.
+/// A statement. What is caught by a `try` stands in the order of the text. Most of a tree's memory are statements, so what is rare or
+/// large in one lies elsewhere, and the base of a declaration stands first, beside what tells the kinds apart.
 #[derive(Debug, Drop)]
 #[cycle(statement)]
 pub enum Statement<'a> {
     /// The declaration of a variable with its first value.
     Declare {
-        at: usize,
         base: BaseType,
-        label: Option<WrittenLabel<'a>>,
+        at: usize,
+        label: &'a Option<WrittenLabel<'a>>,
         name: Name<'a>,
         value: RightSide<'a>,
     },
     /// The declaration of an array of a size.
     DeclareArray {
-        at: usize,
         base: BaseType,
-        label: Option<WrittenLabel<'a>>,
+        at: usize,
+        label: &'a Option<WrittenLabel<'a>>,
         name: Name<'a>,
         size: Size,
     },
@@ -132,8 +140,7 @@ pub enum Statement<'a> {
     },
     /// The assignment of a value to the element at an index.
     AssignElement {
-        array: Name<'a>,
-        index: Expression<'a>,
+        element: &'a Element<'a>,
         value: Expression<'a>,
     },
     /// A call whose value, if there is one, is dropped.
@@ -152,7 +159,13 @@ pub enum Statement<'a> {
         at: usize,
         condition: Expression<'a>,
         accepted: Block<'a>,
-        otherwise: Option<Block<'a>>,
+    },
+    /// A condition with an `else`.
+    IfElse {
+        at: usize,
+        condition: Expression<'a>,
+        accepted: Block<'a>,
+        otherwise: Box<Block<'a>>,
     },
     While {
         at: usize,
@@ -200,7 +213,7 @@ pub struct Catch<'a> {
 }
 
 /// The declaration of a channel.
-#[derive(Debug, Drop)]
+#[derive(Clone, Copy, Debug)]
 pub struct Channel<'a> {
     pub at: usize,
     pub direction: Direction,
@@ -230,7 +243,7 @@ pub enum GlobalValue {
 }
 
 /// The declaration of a global.
-#[derive(Debug, Drop)]
+#[derive(Clone, Copy, Debug)]
 pub struct GlobalVariable<'a> {
     pub at: usize,
     pub base: BaseType,
@@ -240,7 +253,7 @@ pub struct GlobalVariable<'a> {
 }
 
 /// What a procedure answers: nothing, or a value of a type with a label.
-#[derive(Debug, Drop)]
+#[derive(Clone, Copy, Debug)]
 pub enum WrittenResult<'a> {
     Nothing,
     Value {
@@ -250,7 +263,7 @@ pub enum WrittenResult<'a> {
 }
 
 /// A parameter of a procedure.
-#[derive(Debug, Drop)]
+#[derive(Clone, Copy, Debug)]
 pub struct Parameter<'a> {
     pub at: usize,
     pub base: BaseType,
@@ -259,7 +272,7 @@ pub struct Parameter<'a> {
 }
 
 /// An exception that a procedure may throw, and the label of that.
-#[derive(Debug, Drop)]
+#[derive(Clone, Copy, Debug)]
 pub struct Thrown<'a> {
     pub name: Name<'a>,
     pub label: WrittenLabel<'a>,
@@ -298,6 +311,7 @@ impl<'a> Statement<'a> {
             | Statement::Receive { at, .. }
             | Statement::Send { at, .. }
             | Statement::If { at, .. }
+            | Statement::IfElse { at, .. }
             | Statement::While { at, .. }
             | Statement::Break { at }
             | Statement::Continue { at }
@@ -305,28 +319,40 @@ impl<'a> Statement<'a> {
             | Statement::Return { at, .. }
             | Statement::Try { at, .. } => *at,
             Statement::Assign { target: name, .. }
-            | Statement::AssignElement { array: name, .. }
             | Statement::Call(
                 Call {
                     procedure: name,
                     ..
                 },
             ) => name.at,
+            Statement::AssignElement { element, .. } => element.array.at,
             Statement::Nested(block) => block.at,
         }
     }
 
+    /// A condition with what is done under it.
+    pub fn make_if(at: usize, condition: Expression<'a>, accepted: Block<'a>) -> Statement<'a>
+        ensures { statement_tree result
+            ≡ if_tree at (expression_tree condition.entry) (block_tree accepted.entry) None }
+    {
+        Statement::If {
+            at,
+            condition,
+            accepted,
+        }
+    }
+
     /// A condition with what is done under it, and what is done otherwise.
-    pub fn make_if(
+    pub fn make_if_else(
         at: usize,
         condition: Expression<'a>,
         accepted: Block<'a>,
-        otherwise: Option<Block<'a>>,
+        otherwise: Box<Block<'a>>,
     ) -> Statement<'a>
         ensures { statement_tree result ≡ if_tree at (expression_tree condition.entry)
-            (block_tree accepted.entry) (optional_block_tree otherwise.entry) }
+            (block_tree accepted.entry) (Some (block_tree otherwise.entry.value)) }
     {
-        Statement::If {
+        Statement::IfElse {
             at,
             condition,
             accepted,

@@ -7,6 +7,7 @@ fn laws_of_sources(_rt: HostRuntime) {
     resolved::laws::values_keep_their_types();
     resolved::laws::programs_are_labelled_or_refused();
     resolved::laws::gathered_constraints_decide();
+    resolved::laws::parts_are_those_of_the_rules();
     resolved::laws::precise_programs_are_accepted();
     runs::exits_are_possible();
     runs::calls_give_their_value();

@@ -4,10 +4,10 @@
 ghost use Rattle.types.specs.Statements.{after_block, block_finding, catches_finding, statement_finding, statements_finding};
 ghost use Rattle.types.specs.Views.{Resolves, IsLater, at_point, block_view, handlers_view, point_of, setting_of, taken};
 ghost use Rattle.resolved.specs.TreeOf.{statement_of};
-ghost use Rattle.std.specs.Prelude.{OnOk, map, ◌+◌, ◌<◌, ◌≡◌, ◌≤◌};
+ghost use Rattle.std.specs.Prelude.{None, OnOk, Some, map, ◌+◌, ◌<◌, ◌≤◌};
 ghost use Rattle.syntax.specs.Limits.{most_nodes};
 ghost use Rattle.syntax.specs.Nodes.{block_nodes, catches_nodes, statement_nodes, statements_nodes};
-ghost use Rattle.syntax.specs.Tree.{NestedTree, TryTree, WhileTree, block_tree, catch_tree, catches_of, expression_tree, if_tree, optional_block_tree, statement_tree, statements_of};
+ghost use Rattle.syntax.specs.Tree.{NestedTree, TryTree, WhileTree, block_tree, catch_tree, catches_of, expression_tree, if_tree, statement_tree, statements_of};
 
 use crate::body::BodyScope;
 use crate::fault::TypeFault;
@@ -123,25 +123,23 @@ impl<'a, 'n> BodyScope<'a, 'n> {
     {
         match written {
             syntax::Statement::Declare {
-                at,
                 base,
+                at,
                 label,
                 name,
                 value,
             } => self.declare_scalar(*at, *base, label, name, value),
             syntax::Statement::DeclareArray {
-                at,
                 base,
+                at,
                 label,
                 name,
                 size,
             } => self.declare_array(*at, *base, label, name, *size),
             syntax::Statement::Assign { target, value } => self.resolve_assign(target, value),
-            syntax::Statement::AssignElement {
-                array,
-                index,
-                value,
-            } => self.resolve_store(array, index, value),
+            syntax::Statement::AssignElement { element, value } => {
+                self.resolve_store(&element.array, &element.index, value)
+            }
             syntax::Statement::Call(call) => self.resolve_call_statement(call),
             syntax::Statement::Receive { at, channel } => self.resolve_receive(*at, channel),
             syntax::Statement::Send { at, channel, value } => self.resolve_send(
@@ -151,8 +149,13 @@ impl<'a, 'n> BodyScope<'a, 'n> {
                 at,
                 condition,
                 accepted,
+            } => self.resolve_if(*at, condition, accepted),
+            syntax::Statement::IfElse {
+                at,
+                condition,
+                accepted,
                 otherwise,
-            } => self.resolve_if(*at, condition, accepted, otherwise),
+            } => self.resolve_if_else(*at, condition, accepted, otherwise),
             syntax::Statement::While {
                 at,
                 condition,
@@ -167,7 +170,7 @@ impl<'a, 'n> BodyScope<'a, 'n> {
         }
     }
 
-    /// A condition with a block or two.
+    /// A condition with a block.
     #[cycle(block)]
     #[inline(never)]
     fn resolve_if(
@@ -175,29 +178,48 @@ impl<'a, 'n> BodyScope<'a, 'n> {
         at: usize,
         condition: &syntax::Expression<'_>,
         accepted: &Block<'n>,
-        otherwise: &Option<Block<'n>>,
     ) -> Result<Statement, TypeFault>
         requires room { taken self.old + statement_nodes (if_tree at
-            (expression_tree condition.now) (block_tree accepted.now)
-            (optional_block_tree otherwise.now)) < most_nodes }
+            (expression_tree condition.now) (block_tree accepted.now) None) < most_nodes }
         ensures made { Resolves (at_point self.new statement_of) result
             (statement_finding (setting_of self.old) (point_of self.old)
-            (if_tree at (expression_tree condition.now) (block_tree accepted.now)
-            (optional_block_tree otherwise.now))) }
+            (if_tree at (expression_tree condition.now) (block_tree accepted.now) None)) }
         ensures later { OnOk result (IsLater self.old self.new) }
         ensures grows { OnOk result (taken self.new ≤
             taken self.old + statement_nodes (if_tree at (expression_tree condition.now)
-            (block_tree accepted.now) (optional_block_tree otherwise.now))) }
+            (block_tree accepted.now) None)) }
     {
         let condition = self.type_expression(BaseType::Boolean, condition)?;
         let accepted = self.resolve_block(accepted)?;
-        match otherwise {
-            None => Ok(Statement::If(at, condition, accepted, Vec::new(self.alloc))),
-            Some(otherwise) => {
-                let otherwise = self.resolve_block(otherwise)?;
-                Ok(Statement::If(at, condition, accepted, otherwise))
-            }
-        }
+        Ok(Statement::If(at, condition, accepted, Vec::new(self.alloc)))
+    }
+
+    /// A condition with two blocks.
+    #[cycle(block)]
+    #[inline(never)]
+    fn resolve_if_else(
+        &mut self,
+        at: usize,
+        condition: &syntax::Expression<'_>,
+        accepted: &Block<'n>,
+        otherwise: &Block<'n>,
+    ) -> Result<Statement, TypeFault>
+        requires room { taken self.old + statement_nodes (if_tree at
+            (expression_tree condition.now) (block_tree accepted.now)
+            (Some (block_tree otherwise.now))) < most_nodes }
+        ensures made { Resolves (at_point self.new statement_of) result
+            (statement_finding (setting_of self.old) (point_of self.old)
+            (if_tree at (expression_tree condition.now) (block_tree accepted.now)
+            (Some (block_tree otherwise.now)))) }
+        ensures later { OnOk result (IsLater self.old self.new) }
+        ensures grows { OnOk result (taken self.new ≤
+            taken self.old + statement_nodes (if_tree at (expression_tree condition.now)
+            (block_tree accepted.now) (Some (block_tree otherwise.now)))) }
+    {
+        let condition = self.type_expression(BaseType::Boolean, condition)?;
+        let accepted = self.resolve_block(accepted)?;
+        let otherwise = self.resolve_block(otherwise)?;
+        Ok(Statement::If(at, condition, accepted, otherwise))
     }
 
     /// A loop.

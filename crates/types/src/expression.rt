@@ -83,7 +83,9 @@ impl<'a, 'n> BodyScope<'a, 'n> {
                 found_constant(Expression::Logical(*value), BaseType::Boolean)
             }
             syntax::Expression::Variable(name) => self.resolve_variable(name),
-            syntax::Expression::Element { array, index } => self.resolve_element(array, index),
+            syntax::Expression::Element(element) => {
+                self.resolve_element(&element.array, &element.index)
+            }
             syntax::Expression::Unary {
                 operator,
                 operand,

@@ -215,13 +215,13 @@ impl<'a> LabelContext<'a> {
     {
         let mut own = Vec::new(self.alloc);
         let mut named = Vec::new(self.alloc);
-        for component in written.components.as_slice() {
+        for component in written.components {
             match component {
                 Component::Policy { owner, readers } => own.push(resolve_policy(
                     self.alloc,
                     self.hierarchy,
                     owner,
-                    readers.as_slice(),
+                    readers,
                 )?)?,
                 Component::Variable(name) => named.push(self.label_of(name)?)?,
             }

@@ -86,7 +86,7 @@ impl<'a, 'n> BodyScope<'a, 'n> {
                 at: name.at,
             }));
         }
-        let arguments = self.resolve_arguments(parameters, &written.arguments)?;
+        let arguments = self.resolve_arguments(parameters, written.arguments)?;
         Ok(UsedCall {
             procedure: number,
             arguments,

@@ -3,7 +3,8 @@ use Rattle.std.proofs.Common.{◌≡◌, ℕ, zero, suc, ◌<◌, ◌^◌, true,
 use Rattle.modules.specs.Code.{code_length}
 use Rattle.modules.specs.Contents.{ProcedureContents, ModuleContents}
 use Rattle.modules.specs.ByteFormat.{Fits, FitEach}
-use Rattle.modules.specs.Format.{may_start, main, handlers, procedure, procedures, program, contents, module_file}
+use Rattle.modules.specs.Format.{main, procedure, module_file}
+use Rattle.modules.specs.FormatParts.{may_start, procedures}
 use Rattle.modules.specs.declared.version.Version.{Version}
 use Rattle.modules.proofs.Widths.{procedure_short}
 
@@ -14,7 +15,7 @@ pub record IsBounded (m : ModuleContents) : Type 0 where
   pub starts : may_start (slice_get m.procedures m.main) ≡ true
 
 handlers_few : (version : Version) (p : ProcedureContents) → Fits (procedure version) p → length p.handlers < 2 ^ 32
-unfolding procedure handlers
+unfolding procedure
 handlers_few version p h = h.0.1.1.1.1.0
 
 each_fits : (version : Version) (before all : List ProcedureContents) → FitEach (λ seen p. Fits (procedure version) p) before all → (k : ℕ) (p : ProcedureContents) → slice_get all k ≡ Some p → Fits (procedure version) p
@@ -31,7 +32,7 @@ unfolding main
 main_starts all number h = h.1
 
 pub bounded : (m : ModuleContents) → Fits module_file m → IsBounded m
-unfolding module_file contents program
+unfolding module_file procedures
 bounded m h =
     let all = h.0.1.1.1.1 in
     let b = procedures_fit m.version m.procedures all.0 in

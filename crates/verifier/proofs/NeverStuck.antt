@@ -5,9 +5,9 @@ use Rattle.std.proofs.lemmas.Bool.{and_parts}
 use Rattle.modules.specs.Code.{instruction_at}
 use Rattle.modules.specs.Contents.{ProcedureContents, ModuleContents}
 use Rattle.modules.specs.Machine as machine
-use Rattle.modules.specs.Machine.{State, Machine, Running, Ended, Stuck, machine_code, header_of, declared_at, cells_at, with_cells_at, first_state, first_slots, act, step, exec, after_steps}
+use Rattle.modules.specs.Machine.{State, Machine, Running, machine_code, declared_at, cells_at, with_cells_at, first_state, first_slots, act, step, exec, after_steps}
 use Rattle.modules.specs.MachineParts.{code_of, slots_of, slots_in, acts}
-use Rattle.modules.specs.Format.{may_start}
+use Rattle.modules.specs.FormatParts.{may_start}
 use Rattle.modules.specs.Values.{kind_of, kind_of_slot}
 use Rattle.modules.specs.declared.instruction.Instruction.{Instruction}
 use Rattle.modules.specs.declared.instruction.Storage.{Storage}

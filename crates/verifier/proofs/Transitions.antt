@@ -4,8 +4,8 @@ use Rattle.std.proofs.Common.{◌≡◌, ℕ, Bool, true, false, if◌then◌els
 use Rattle.modules.specs.Contents.{ProcedureContents, ModuleContents}
 use Rattle.modules.specs.Machine as machine
 use Rattle.modules.specs.MachineParts as pieces
-use Rattle.modules.specs.Machine.{State, Caller, Machine, Running, Ended, Stuck, Deep, Header, machine_code, header_of, slot_at, element_at, with_element, first_slots}
-use Rattle.modules.specs.MachineParts.{code_of, slots_of, with_slot, with_global, kinds_of}
+use Rattle.modules.specs.Machine.{State, machine_code, element_at, with_element}
+use Rattle.modules.specs.MachineParts.{operates, with_slot}
 use Rattle.common.specs.declared.exceptions.TheConstants.{ARITH, BOUNDS, END}
 use Rattle.modules.specs.Values.{kind_of, zero_of, is_same_kind}
 use Rattle.modules.specs.Operators.{OperatorFunction, ValueOf, applied, cell_of, operated, rule_of}
@@ -120,11 +120,11 @@ module _ (m : ModuleContents) (free : IsNotRefused m) (p : ProcedureContents) (i
 
   -- ---- operators
 
-  pub operates_good : (s : State) (operator : MachineOperator) (operands : List Cell) (after : List BaseType) → Stands m p s i (map kind_of operands) → effect m p i (map kind_of operands) ≡ Leaves after → goes_on i ≡ true → exchanged (exchange (rule_of operator).operands (Some (rule_of operator).value_kind)) (map kind_of operands) ≡ Leaves after → Good m (machine.operates (machine_code m) s (operated operator operands))
+  pub operates_good : (s : State) (operator : MachineOperator) (operands : List Cell) (after : List BaseType) → Stands m p s i (map kind_of operands) → effect m p i (map kind_of operands) ≡ Leaves after → goes_on i ≡ true → exchanged (exchange (rule_of operator).operands (Some (rule_of operator).value_kind)) (map kind_of operands) ≡ Leaves after → Good m (operates (machine_code m) s (operated operator operands))
   operates_good s operator operands after st e goes pops =
       by (operated operator operands) (applied-good (rule_of operator).operands (rule_of operator).value_kind (rule_of operator).value operands after pops)
     where
-      by : (o : Option (Option Cell × List Cell)) → Applies after o → Good m (machine.operates (machine_code m) s o)
+      by : (o : Option (Option Cell × List Cell)) → Applies after o → Good m (operates (machine_code m) s o)
       by None h = absurd h
       by (Some (None, left)) h = raised_good m free p s i (map kind_of operands) ARITH st
       by (Some (Some x, left)) h = next_good m free p s i (map kind_of operands) after (x ∷ left) st e goes h

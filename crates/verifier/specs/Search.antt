@@ -15,14 +15,16 @@ use Rattle.verifier.specs.Depth.{IsMet}
 use Rattle.verifier.specs.Index.{index_of}
 use Rattle.verifier.specs.Operands.{StartsWithEmpty, list_of}
 use Rattle.verifier.specs.declared.search.ReachedOffsets.{ReachedOffsets}
+use Rattle.verifier.specs.SignatureParts.{next_of}
 use Rattle.verifier.specs.declared.search.FlowRefusal.{FlowRefusal}
+use Rattle.verifier.specs.declared.search.Leaving.{Leaving}
 use Rattle.verifier.specs.declared.work.ListedOffset.{ListedOffset}
 use Rattle.verifier.specs.declared.body.IndexedProcedure.{IndexedProcedure}
 use Rattle.verifier.specs.declared.coverage.Coverage.{Coverage}
 
 -- a procedure that the search may look at: the index is that of its code, which has less than 4 GiB
 pub record IsSearchableBody (b : IndexedProcedure) : Type 0 where
-  pub index : b.index ≡ index_of b.procedure.now.code
+  pub index : b.index.now ≡ index_of b.procedure.now.code
   pub short : code_length b.procedure.now.code < 2 ^ 32
 
 -- ---- the table that was found so far
@@ -164,6 +166,13 @@ pub record HasEffect (m : ModuleContents) (p : ProcedureContents) (s : ReachedOf
   pub kinds : List BaseType
   pub has : table p s at ≡ Some kinds
   pub effect : effect m p i kinds ≡ Leaves after
+
+-- what an instruction at an offset leaves, once control went where it jumps
+pub record HasLeft (m : ModuleContents) (p : ProcedureContents) (s : ReachedOffsets) (at : ℕ) (leaving : Leaving) : Type 0 where
+  pub instruction : Instruction
+  pub effect : HasEffect m p s at instruction (list_of s.operands leaving.list)
+  pub next : leaving.next ≡ next_of instruction
+  pub jumps : (to : ℕ) → target_of instruction ≡ Some to → table p s to ≡ Some (list_of s.operands leaving.list)
 
 -- a offset that has a list and an instruction
 pub record HasInstruction (p : ProcedureContents) (s : ReachedOffsets) (at : ℕ) : Type 0 where

@@ -5,11 +5,11 @@ use Rattle.std.specs.Prelude.{ℕ, nat_lt, Bool, true, false, List, [], ◌∷�
 use Rattle.std.specs.Option.{option_map_or, option_to_list}
 use Rattle.modules.specs.Contents.{ProcedureContents, ModuleContents}
 use Rattle.modules.specs.Machine.{header_of, machine_code}
+use Rattle.modules.specs.Opcodes.{by_storage}
 use Rattle.modules.specs.Operators.{rule_of}
 use Rattle.modules.specs.Values.{kind_of_slot}
 use Rattle.modules.specs.declared.instruction.Instruction.{Instruction}
 use Rattle.modules.specs.declared.instruction.Storage.{Storage}
-use Rattle.modules.specs.declared.instruction.Storage.TheVariants.{Local, Global}
 use Rattle.modules.specs.declared.instruction.Instruction.TheVariants.{Push, PushBoolean, Pop, Load, Store, LoadElement, StoreElement, Clear, Operate, Jump, JumpIfFalse, Call, Return, ReturnValue, Receive, Send, Throw}
 use Rattle.common.specs.declared.base_type.BaseType.{BaseType}
 use Rattle.common.specs.declared.base_type.BaseType.TheVariants.{Int, Boolean}
@@ -61,8 +61,7 @@ slot_kind slot = option_map_or kind_of_slot slot Int
 
 -- a slot of the procedure or a global, as it is declared
 abbrev pub declared_in : ModuleContents → ProcedureContents → Storage → ℕ → Option Slot
-declared_in m procedure Local k = slice_get procedure.slots k
-declared_in m procedure Global k = slice_get (machine_code m).globals k
+declared_in m procedure storage k = slice_get (by_storage storage procedure.slots (machine_code m).globals) k
 
 -- what goes by the kind of a scalar, or of an array
 abbrev scalar : Option Slot → (BaseType → InstructionSignature) → InstructionSignature

@@ -29,7 +29,7 @@ pub record AreCodeStarts (code : List Instruction) (starts : List ℕ) : Type 0 
 
 -- for each word of bits how many are set before it
 pub record HasCounts (starts counts : List ℕ) : Type 0 where
-  pub long : length counts ≡ length starts
+  pub long : length starts ≤ length counts
   pub counted : (j : ℕ) → j < length starts → slice_index_or counts j 0 ≡ starts_before starts (64 * j)
 
 -- the bits of fewer than 2^32 bytes, and their counts

@@ -48,17 +48,17 @@ pub(crate) fn look_for_refusals(
     let mut found = None;
     let mut number = 0;
     for procedure in procedures {
-        let body = IndexedProcedure::new(alloc, program, procedure)?;
+        indexes.push_reserved(Index::of(alloc, procedure.code())?);
+        let body = IndexedProcedure::new(program, procedure, &indexes[number as usize]);
         let start = placed.len();
         place_code(&body, number, &mut placed)?;
         let flow = look_for_flow_refusal(&mut search, &body, number, found, &placed[start..])?;
         let (found_now, greatest_depth) = flow;
         found = found_now;
-        codes.push(Code {
+        codes.push_reserved(Code {
             start,
             greatest_depth,
-        })?;
-        indexes.push(body.index)?;
+        });
         number += 1;
     }
     match found {

@@ -1,6 +1,6 @@
 //! The search for a refusal of the flow of operands: from the start along each edge, one list of kinds for each offset.
 
-ghost use Rattle.modules.specs.Code.{code_length, instruction_at, offset_at, width_of};
+ghost use Rattle.modules.specs.Code.{code_length, instruction_at, offset_at};
 ghost use Rattle.modules.specs.Contents.{ModuleContents, ProcedureContents};
 ghost use Rattle.modules.specs.declared.declaration.Handler.{Handler};
 ghost use Rattle.common.specs.declared.base_type.BaseType.{BaseType};
@@ -14,8 +14,9 @@ ghost use Rattle.verifier.specs.Depth.{IsGreatestDepth};
 ghost use Rattle.verifier.specs.Operands.{IsLonger, StartsWithEmpty, list_of};
 ghost use Rattle.verifier.specs.Boundaries.{IsBoundary, KeepsBoundaries};
 ghost use Rattle.verifier.specs.Positions.{positioned};
+ghost use Rattle.verifier.specs.SignatureParts.{next_of};
 ghost use Rattle.verifier.specs.Work.{listed_at};
-ghost use Rattle.verifier.specs.Search.{jump_of, Flowed, HasEffect, HasInstruction, IsApplied, IsAtEdge, IsLengthened, IsSearchableBody, IsListed, IsSearchingNext, IsSearching, IsOperandFlowRefusal, IsWaiting, IsRaising, HasRaised, StandsAt, count, left, table, waiting};
+ghost use Rattle.verifier.specs.Search.{jump_of, Flowed, HasEffect, HasInstruction, HasLeft, IsApplied, IsAtEdge, IsLengthened, IsSearchableBody, IsListed, IsSearchingNext, IsSearching, IsOperandFlowRefusal, IsWaiting, IsRaising, HasRaised, StandsAt, count, left, table, waiting};
 
 use crate::body::IndexedProcedure;
 use crate::coverage::Coverage;
@@ -66,6 +67,14 @@ fn target_in(placed: &[Instruction], number: u32) -> usize
         Some(position) => position as usize,
         None => unreachable!(),
     }
+}
+
+/// What an instruction leaves: the list when it has popped and pushed, and after how many bytes control goes on, if it goes on to the next
+/// instruction.
+#[derive(Clone, Copy)]
+pub(crate) struct Leaving {
+    pub list: u32,
+    pub next: Option<u32>,
 }
 
 /// The lists of the offsets that control reaches, and the offsets that are still to be looked at.
@@ -217,8 +226,8 @@ impl ReachedOffsets {
         Ok(above)
     }
 
-    // The list that an instruction at an offset leaves, once control went with it where the instruction jumps. What pushes does not
-    // jump. It is inlined, as the two loops call it.
+    // What an instruction at an offset leaves, once control went where the instruction jumps. What pushes does not jump. It is inlined, as
+    // the two loops call it.
     #[inline(always)]
     fn apply(
         &mut self,
@@ -226,7 +235,7 @@ impl ReachedOffsets {
         placed: &[Instruction],
         listed: ListedOffset,
         instruction: Instruction,
-    ) -> Result<u32, FlowFault>
+    ) -> Result<Leaving, FlowFault>
         requires searching { IsSearching body.now.program.now body.now.procedure.now self.old
             (listed.at ∷ []) }
         requires listed { IsListed body.now.procedure.now self.old listed }
@@ -238,26 +247,39 @@ impl ReachedOffsets {
         requires room { length self.old.operands + left self.old < 2 ^ 32 }
         ensures accepted { OnOk result (IsApplied body.now.program.now body.now.procedure.now
             self.old self.new listed.at) }
-        ensures there { IfOk result (λ r. r < length self.new.operands) }
-        ensures deep { IfOk result (λ r. length (list_of self.new.operands r)
+        ensures there { IfOk result (λ r. r.list < length self.new.operands) }
+        ensures deep { IfOk result (λ r. length (list_of self.new.operands r.list)
             ≤ self.new.deepest) }
         ensures effect { IfOk result (λ r. HasEffect body.now.program.now body.now.procedure.now
-            self.new listed.at instruction (list_of self.new.operands r)) }
+            self.new listed.at instruction (list_of self.new.operands r.list)) }
         ensures jumps { IfOk result (λ r. (to : ℕ) → targets.target_of instruction ≡ Some to →
-            table body.now.procedure.now self.new to ≡ Some (list_of self.new.operands r)) }
+            table body.now.procedure.now self.new to ≡ Some (list_of self.new.operands r.list)) }
+        ensures next { IfOk result (λ r. r.next ≡ next_of instruction) }
         ensures rejected { IfErr result (IfRefused
             (IsOperandFlowRefusal body.now.program.now body.now.procedure.now)) }
     {
         match exchange(&self.operands, body, instruction, listed.list) {
             Err(kind) => Err(refuse(kind, listed.at)),
-            Ok((rest, Some(kind))) => Ok(self.push(rest, kind)?),
-            Ok((rest, None)) => {
-                if let Some(to) = instruction.target() {
-                    let number = target_in(placed, listed.number);
-                    self.reach(body, listed.at, to, number, rest)?;
+            Ok(exchanged) => match exchanged.pushes {
+                Some(kind) => {
+                    let list = self.push(exchanged.rest, kind)?;
+                    Ok(Leaving {
+                        list,
+                        next: exchanged.next,
+                    })
                 }
-                Ok(rest)
-            }
+                None => {
+                    let list = exchanged.rest;
+                    if let Some(to) = instruction.target() {
+                        let number = target_in(placed, listed.number);
+                        self.reach(body, listed.at, to, number, list)?;
+                    }
+                    Ok(Leaving {
+                        list,
+                        next: exchanged.next,
+                    })
+                }
+            },
         }
     }
 
@@ -328,19 +350,15 @@ impl ReachedOffsets {
         body: &IndexedProcedure,
         at: u32,
         number: u32,
-        instruction: Instruction,
-        list: u32,
+        leaving: Leaving,
     ) -> Result<Option<ListedOffset>, FlowFault>
         requires searching { IsSearching body.now.program.now body.now.procedure.now self.old
             (at ∷ []) }
-        requires effect { HasEffect body.now.program.now body.now.procedure.now self.old at
-            instruction (list_of self.old.operands list) }
-        requires list { list < length self.old.operands }
-        requires deep { length (list_of self.old.operands list) ≤ self.old.deepest }
+        requires leaves { HasLeft body.now.program.now body.now.procedure.now self.old at
+            leaving }
+        requires list { leaving.list < length self.old.operands }
+        requires deep { length (list_of self.old.operands leaving.list) ≤ self.old.deepest }
         requires number { offset_at body.now.procedure.now.code number ≡ at }
-        requires jumps { (to : ℕ) → targets.target_of instruction ≡ Some to → table
-            body.now.procedure.now self.old to
-            ≡ Some (list_of self.old.operands list) }
         requires caught { (h : Handler) → Contains body.now.procedure.now.handlers h →
             h.start ≤ at → at < h.end → table body.now.procedure.now self.old h.target ≡ Some [] }
         requires boundaries { KeepsBoundaries body.now.procedure.now }
@@ -356,10 +374,11 @@ impl ReachedOffsets {
         ensures rejected { IfErr result (IfRefused
             (IsOperandFlowRefusal body.now.program.now body.now.procedure.now)) }
     {
-        if !instruction.goes_on() {
+        let Leaving { list, next } = leaving;
+        let Some(width) = next else {
             return Ok(None);
-        }
-        let to = at + instruction.width() as u32;
+        };
+        let to = at + width;
         let number = number + 1;
         if self.arrive(body, at, to, number as usize, list)? {
             Ok(Some(ListedOffset {
@@ -372,7 +391,7 @@ impl ReachedOffsets {
         }
     }
 
-    // Looks at an offset: control goes on from it along each edge.
+    // Looks at an offset: control goes on from it along each edge, first to handlers, so that nothing else has to be kept meanwhile.
     fn visit<const HANDLED: bool>(
         &mut self,
         body: &IndexedProcedure,
@@ -405,9 +424,9 @@ impl ReachedOffsets {
             number,
             list: _,
         } = listed;
-        let after = self.apply(body, placed, listed, instruction)?;
         self.raise::<HANDLED>(body, coverage, at)?;
-        let next = self.go_on(body, at, number, instruction, after)?;
+        let leaving = self.apply(body, placed, listed, instruction)?;
+        let next = self.go_on(body, at, number, leaving)?;
         Ok(next)
     }
 

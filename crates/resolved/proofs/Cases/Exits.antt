@@ -9,12 +9,12 @@ use Rattle.common.specs.declared.operator.Arithmetic.TheVariants.{Subtract, Mult
 use Rattle.common.specs.declared.operator.Prefix.TheVariants.{Negate}
 use Rattle.resolved.specs.declared.statement.Exit.TheVariants.{Normal, Return, Break, Continue, Throw}
 use Rattle.resolved.specs.Tree.{Logical, Element, Unary, Binary, Store, Receive, Send, Call, Leave, ReturnWith, Empty, NoMore, Catch}
-use Rattle.resolved.specs.Exits.{raises, statement_exits}
-use Rattle.resolved.specs.ExitFaults.{exit_faults}
+use Rattle.resolved.specs.Exits.{raises}
+use Rattle.resolved.specs.Labelled.{exit_faults}
 use Rattle.resolved.specs.declared.fault.ExitRefusalKind.{ExitRefusalKind}
 use Rattle.resolved.specs.declared.fault.ExitRefusalKind.TheVariants.{OutsideLoop, Unreachable, NeverRaised, NoValueReturned, Undeclared}
 use Rattle.common.specs.declared.refusal.RefusalAt.{RefusalAt}
-use Rattle.resolved.proofs.Cases.Kit.{arith, bounds, end, oops, s_channel, pub_channel, int_slot, array_slot, int, minus, var, set_to, send_public, positive, block, on, try_to, if_then, while_loop, procedure, thrown, program, main_program}
+use Rattle.resolved.proofs.Cases.Kit.{arith, bounds, end, oops, s_channel, pub_channel, int_slot, array_slot, int, minus, var, set_to, send_public, positive, block, on, try_to, if_then, while_loop, procedure, thrown, program, main_program, exits_of}
 
 abbrev fault : ExitRefusalKind → ℕ → List (RefusalAt ExitRefusalKind)
 fault kind at = record { kind = kind; at = at } ∷ []
@@ -35,21 +35,21 @@ unfolding int_wrap
 indices = refl
 
 -- a loop can always end normally; its body's `break` and `continue` do not leave it, a `return` does
-loop_exits : statement_exits (main_program [] []) (while_loop (Logical true) (
+loop_exits : exits_of (main_program [] []) (while_loop (Logical true) (
     if_then (positive (var 0)) (Leave 0 Break ∷ []) ∷ if_then (positive (var 0)) (Leave 0 Continue ∷ []) ∷ ReturnWith 0 None ∷ []))
     ≡ Normal ∷ Return ∷ []
 unfolding int_wrap
 loop_exits = refl
 
 -- `try { int y = 1 / x; throw Oops; } catch (Arith) { return; }`
-try_ends : statement_exits (main_program [] []) (
+try_ends : exits_of (main_program [] []) (
     try_to (set_to 1 (Binary (Compute Divide) (int 1) (var 0)) ∷ Leave 0 (Throw oops) ∷ []) (on arith (ReturnWith 0 None ∷ [])))
     ≡ Throw oops ∷ Return ∷ []
 unfolding int_wrap
 try_ends = refl
 
 -- a call has the exceptions of its procedure and of its arguments
-call_exits : statement_exits (program (record (procedure [] []) { throws = thrown oops [] } ∷ []))
+call_exits : exits_of (program (record (procedure [] []) { throws = thrown oops [] } ∷ []))
     (Call 0 0 (Element (Local 0) 2 (var 1) ∷ []) None) ≡ Normal ∷ Throw bounds ∷ Throw oops ∷ []
 unfolding int_wrap
 call_exits = refl

@@ -1,6 +1,6 @@
 -- What the worked cases are written with. Their programs stand under the principals Alice, Bob and Carol, of whom Carol acts for
 -- Bob, with the channels `input{Alice:} s; input{} q; output{} pub;` and one declared exception, `Oops`.
-use Rattle.std.proofs.Common.{ℕ, List, [], ◌∷◌, ◌++◌, Bool, ◌==◌}
+use Rattle.std.proofs.Common.{ℕ, List, [], ◌∷◌, ◌++◌, Bool, true, false, ◌==◌}
 use Rattle.std.specs.Prelude.{ℤ, Some, None, slice_index_or, if◌then◌else◌}
 use Rattle.std.specs.List.{list_all}
 use Rattle.principals.specs.ActsFor.{PrincipalHierarchy}
@@ -20,7 +20,8 @@ use Rattle.resolved.specs.Tree.{Expression, Integer, Unary, Binary, Statement, A
 use Rattle.resolved.specs.Program.{Program, ProcedureEntry, ThrownEntry, GlobalEntry, SlotEntry}
 use Rattle.resolved.specs.SourceState.{World}
 use Rattle.resolved.specs.Meaning.{Outcome, Ended, Stopped, Stop, run_within, state_after}
-use Rattle.resolved.specs.Labelled.{Demand, Labelling, OfLocal, OfLoop, program_demands}
+use Rattle.resolved.specs.declared.statement.Exit.{Exit}
+use Rattle.resolved.specs.Labelled.{Demand, Labelling, OfLocal, OfLoop, rule_of, program_demands}
 pub use Rattle.resolved.specs.Precise.{secret as alice, int_slot, oops, local as var}
 
 abbrev pub three_principals : PrincipalHierarchy
@@ -190,3 +191,7 @@ locals_are label (OfLoop f n) = []
 -- whether a program fits a labelling
 abbrev pub fits : Program → Labelling → Bool
 fits p labelling = list_all (λ (d : Demand). holds (label_lattice p.hierarchy) labelling d) (program_demands p)
+
+-- the possible exits of a statement of the first procedure
+abbrev pub exits_of : Program → Statement → List Exit
+exits_of p statement = (rule_of (record { program = p; number = 0 }) false true [] statement).exits

@@ -2,7 +2,7 @@ use Rattle.std.proofs.Common.{[], ◌++◌, ◌∷◌, ◌≡◌}
 use Rattle.std.proofs.lemmas.List.{map_push}
 use Rattle.std.proofs.lemmas.Result.{err_from_is_err_and}
 use Rattle.std.specs.BTreeSet.{contains_text}
-use Rattle.modules.specs.Format.{channel_names}
+use Rattle.modules.specs.FormatParts.{channel_names}
 use Rattle.bytecode.proofs.NewNames.{channels_fail, channels_go_on, in_set_more}
 use Rattle.bytecode.proofs.channels.read_channels.Goals as goal
 

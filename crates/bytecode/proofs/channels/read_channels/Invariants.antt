@@ -1,7 +1,8 @@
 use Rattle.std.proofs.Common.{[], List, ℕ, ◌-◌, ◌||◌, ◌≡◌}
 use Rattle.std.specs.BTreeSet.{contains_text}
 use Rattle.modules.specs.ByteFormat.{each_at, read}
-use Rattle.modules.specs.Format.{channel_after, channel_names, is_among}
+use Rattle.modules.specs.Format.{channel_after, is_among}
+use Rattle.modules.specs.FormatParts.{channel_names}
 use Rattle.bytecode.proofs.channels.read_channels.Given as goal
 
 -- what is left to read goes on to what reading gives from the start, and the set has the names of the channels

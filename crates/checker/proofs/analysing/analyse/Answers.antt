@@ -7,7 +7,7 @@ use Rattle.common.proofs.Casting.{cast-answer}
 use Rattle.common.specs.Answers.{IfRefused}
 use Rattle.path_map.specs.FirstFault.{IsFirstEndFault}
 use Rattle.resolved.specs.CoreOf.{program_of}
-use Rattle.resolved.specs.ExitFaults.{exit_faults}
+use Rattle.resolved.specs.Labelled.{exit_faults}
 use Rattle.checker.proofs.Faults.{ended}
 use Rattle.checker.specs.Found.{IsFoundRefusal}
 use Rattle.checker.proofs.analysing.analyse.Goals as goal

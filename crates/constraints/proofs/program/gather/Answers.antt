@@ -4,8 +4,7 @@ use Rattle.labels.specs.LabelLattice.{label_lattice}
 use Rattle.path_map.specs.EndsOf.{AreEndsOf}
 use Rattle.resolved.specs.CoreOf.{program_of}
 use Rattle.resolved.specs.declared.program.Core.{Core}
-use Rattle.resolved.specs.ExitFaults.{exit_faults}
-use Rattle.resolved.specs.Labelled.{FitsDemands, program_demands}
+use Rattle.resolved.specs.Labelled.{FitsDemands, program_demands, exit_faults}
 use Rattle.resolved.specs.WellFormed.{program_nodes}
 use Rattle.solver.specs.Constraints.{constraint_of}
 use Rattle.solver.specs.Links.{InRange}

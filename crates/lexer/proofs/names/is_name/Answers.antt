@@ -1,7 +1,7 @@
 use Rattle.std.proofs.Common.{◌≡◌, ◌&&◌, Bool, true, not, Option, is_some, refl, ap, sym, ◌∙◌, arith}
 use Rattle.std.proofs.lemmas.Bool.Decides.{nat_tests}
 use Rattle.std.specs.Str.{chars}
-use Rattle.lexer.specs.KindOf.{keyword_rows, keyword_of}
+use Rattle.lexer.specs.KindRows.{keyword_rows, keyword_of}
 use Rattle.lexer.specs.Words.{is_identifier}
 use Rattle.lexer.proofs.Fixed.{is_keyword}
 use Rattle.lexer.specs.declared.token.Kind.{Kind}

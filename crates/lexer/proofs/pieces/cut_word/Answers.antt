@@ -1,7 +1,8 @@
 use Rattle.std.proofs.Common.{refl, sym, ap, ◌∙◌, unwrap_or}
 use Rattle.std.specs.Str.{chars}
 use Rattle.lexer.specs.Lexeme.{Word}
-use Rattle.lexer.specs.KindOf.{kind_of, keyword_rows}
+use Rattle.lexer.specs.KindOf.{kind_of}
+use Rattle.lexer.specs.KindRows.{keyword_rows}
 use Rattle.unicode_ident.specs.Ident.{is_xid_continue}
 use Rattle.lexer.specs.declared.token.Kind.TheVariants.{Name}
 use Rattle.lexer.proofs.Tables.{same_lookup}

@@ -6,7 +6,7 @@ use Rattle.modules.specs.Format.{module_file}
 use Rattle.layout.specs.Offsets.{laid_out}
 use Rattle.layout.specs.Runs.{graph_after_steps}
 use Rattle.resolved.specs.CoreOf.{program_of}
-use Rattle.resolved.specs.ExitFaults.{exit_faults}
+use Rattle.resolved.specs.Labelled.{exit_faults}
 use Rattle.resolved.specs.Names.{HasNames}
 use Rattle.resolved.specs.declared.program.Core.{Core}
 use Rattle.verifier.specs.Refusals.{IsNotRefused}

@@ -1,11 +1,13 @@
 use Rattle.common.specs.Answers.{IfRefused}
-use Rattle.std.proofs.Common.{◌≡◌, sym, subst, map, drop, get_or, length, ◌+◌, ◌<◌, ◌++◌, [], rules}
+use Rattle.std.proofs.Common.{◌≡◌, sym, ◌∙◌, subst, map, drop, get_or, length, ◌+◌, ◌<◌, ◌++◌, [], rules}
 use Rattle.std.specs.Prelude.{IsTrue}
 use Rattle.resolved.specs.WellFormed.{procedure_fits}
 use Rattle.path_map.proofs.Fitting.{procedure-fits}
 use Rattle.resolved.specs.CoreOf.{program_of}
-use Rattle.resolved.specs.ExitFaults.{exit_faults, procedure_faults}
+use Rattle.resolved.specs.ExitFaults.{procedure_faults}
+use Rattle.resolved.specs.Labelled.{exit_faults}
 use Rattle.resolved.specs.ProgramOf.{procedure_entry}
+use Rattle.resolved.proofs.Judged.{faults-apart}
 use Rattle.path_map.specs.FirstFault.{IsFirstEndFault}
 use Rattle.path_map.specs.Paths.{HaveSameExits, block_paths}
 use Rattle.path_map.proofs.Procedures.{WithEnds, beside-begin, beside-first, beside-step, beside-end, beside-clean, next-procedure, last-procedure}
@@ -38,10 +40,11 @@ returns-in_err-walk_procedure-clause-first_fault c =
     let all = map (procedure_entry c.args.core.now.labels) c.args.core.now.procedures.items in
     let tail = map (procedure_entry c.args.core.now.labels) (drop (c.loop-procedure.procedure-index + 1) c.deref-procedure-items.result.now) in
     let first : IfRefused (IsFirstEndFault (exit_faults program)) c.in_err-walk_procedure.field-0.0 =
-    beside-first program all procedure tail c.loop-procedure.table c.in_err-walk_procedure.field-0.0
+    subst (λ faults. IfRefused (IsFirstEndFault faults) c.in_err-walk_procedure.field-0.0) (sym (faults-apart program))
+    (beside-first program all procedure tail c.loop-procedure.table c.in_err-walk_procedure.field-0.0
     (subst (λ list. WithEnds program all list c.loop-procedure.table)
     (next-procedure (procedure_entry c.args.core.now.labels) c.deref-procedure-items.result.now c.loop-procedure.procedure-index c.procedure-item.result c.loop-procedure-test.true c.procedure-item.is) c.loop-procedure.invariant)
-    (subst (λ core. IfRefused (IsFirstEndFault (procedure_faults (program_of core) (procedure_entry core.labels c.procedure-item.result))) c.in_err-walk_procedure.field-0.0) c.in_ok-walk.ensures c.in_err-walk_procedure.ensures.first_fault) in
+    (subst (λ core. IfRefused (IsFirstEndFault (procedure_faults (program_of core) (procedure_entry core.labels c.procedure-item.result))) c.in_err-walk_procedure.field-0.0) c.in_ok-walk.ensures c.in_err-walk_procedure.ensures.first_fault)) in
     search (rules, first)
 
 pub returns-clause-found : goal.returns-clause-found
@@ -57,7 +60,8 @@ pub returns-clause-accepted : goal.returns-clause-accepted
 returns-clause-accepted c =
     let program = program_of c.args.core.now in
     let all = map (procedure_entry c.args.core.now.labels) c.args.core.now.procedures.items in
-    beside-clean program all c.loop-procedure.table
+    faults-apart program
+    ∙ beside-clean program all c.loop-procedure.table
     (subst (λ list. WithEnds program all list c.loop-procedure.table)
     (last-procedure (procedure_entry c.args.core.now.labels) c.deref-procedure-items.result.now c.loop-procedure.procedure-index c.loop-procedure-test.false) c.loop-procedure.invariant)
 

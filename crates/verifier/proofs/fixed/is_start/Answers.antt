@@ -3,4 +3,4 @@ use Rattle.verifier.proofs.Indices.{begins}
 use Rattle.verifier.proofs.fixed.is_start.Goals as goal
 
 pub returns : goal.returns
-returns c = c.is_some.ensures ∙ begins c.args.body.now.procedure.now.code c.args.body.now.index c.args.offset c.number.result c.requires.index c.number.ensures
+returns c = c.is_some.ensures ∙ begins c.args.body.now.procedure.now.code c.args.body.now.index.now c.args.offset c.number.result c.requires.index c.number.ensures

@@ -10,7 +10,7 @@ there code offset None e = tt
 there code offset (Some position) e = ap or_zero e
 
 pub returns-clause-start : goal.returns-clause-start
-returns-clause-start c = begins c.args.body.now.procedure.now.code c.args.body.now.index c.args.offset c.number.result c.requires.index c.number.ensures
+returns-clause-start c = begins c.args.body.now.procedure.now.code c.args.body.now.index.now c.args.offset c.number.result c.requires.index c.number.ensures
 
 pub returns-clause-position : goal.returns-clause-position
 returns-clause-position c =

@@ -1,4 +1,5 @@
-use Rattle.std.proofs.Common.{◌≡◌, ◌<◌, ℕ, Some, None, get_or, length, slice_get, map, take, drop}
+use Rattle.std.proofs.Common.{◌≡◌, ◌<◌, ◌≤◌, ℕ, Some, None, get_or, length, slice_get, map, take, drop}
+use Rattle.std.specs.Vec.{vec_capacity, vec_len}
 use Rattle.modules.specs.Contents.{ProcedureContents}
 use Rattle.verifier.specs.Refusals.{IsOperandRefusal}
 use Rattle.verifier.specs.Fixed.{procedure_refusals}
@@ -18,5 +19,9 @@ invariant-loop-procedure l = record {
   flow : l.found ≡ None → (k : ℕ) (p : ProcedureContents) → k < l.procedure-index → slice_get l.procedures k ≡ Some p → FlowsWell l.program p;
   many : length l.codes.items ≡ l.procedure-index;
   codes_are : l.found ≡ None → (k : ℕ) (p : ProcedureContents) (d : Code) → k < l.procedure-index → slice_get l.procedures k ≡ Some p → IsVerifiedCode l.program p l.placed.items (get_or l.codes.items k d);
+  codes_count : vec_len l.codes ≡ l.procedure-index;
+  codes_room : length l.procedures ≤ vec_capacity l.codes;
+  indexes_count : vec_len l.indexes ≡ l.procedure-index;
+  indexes_room : length l.procedures ≤ vec_capacity l.indexes;
   indexes_are : l.indexes.items ≡ map index_at (take l.procedure-index l.procedures);
 }

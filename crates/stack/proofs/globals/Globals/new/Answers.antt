@@ -1,7 +1,8 @@
 use Rattle.std.proofs.Common.{◌≡◌, ◌<◌, ◌^◌, List, map, ap, ◌∙◌, length, arith}
 use Rattle.std.specs.List.{flat_map}
 use Rattle.std.proofs.lemmas.List.{take_all}
-use Rattle.modules.specs.Machine.{first_global, slot_of}
+use Rattle.modules.specs.Machine.{first_global}
+use Rattle.modules.specs.MachineParts.{slot_of}
 use Rattle.modules.specs.declared.declaration.Global.{Global}
 use Rattle.modules.specs.declared.declaration.Slot.{Slot}
 use Rattle.stack.specs.Slab.{cells_in, cut, total}

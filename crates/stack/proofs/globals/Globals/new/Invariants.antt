@@ -1,6 +1,7 @@
 use Rattle.std.proofs.Common.{◌≡◌, map, take}
 use Rattle.std.specs.List.{flat_map}
-use Rattle.modules.specs.Machine.{first_global, slot_of}
+use Rattle.modules.specs.Machine.{first_global}
+use Rattle.modules.specs.MachineParts.{slot_of}
 use Rattle.stack.proofs.globals.Globals.new.Given as goal
 
 -- the slots and the cells of the globals so far

@@ -1,9 +1,9 @@
 use Rattle.types.specs.declared.scope.ItemKind.TheVariants.{Exception}
-use Rattle.std.proofs.Common.{◌≡◌, ◌+◌, ◌≤◌, ◌∙◌, ap, sym, subst, map, arith, refl, Ok, OnOk}
+use Rattle.std.proofs.Common.{◌≡◌, ◌+◌, ◌≤◌, ◌∙◌, ap, sym, subst, map, arith, refl, None, Some, Ok, OnOk}
 use Rattle.std.proofs.lemmas.Result.{err_from_is_err_and}
-use Rattle.syntax.proofs.Rows.{if_is, while_is, try_is, nested_is}
+use Rattle.syntax.proofs.Rows.{if_is, if_else_is, while_is, try_is, nested_is}
 use Rattle.syntax.specs.Nodes.{statement_nodes}
-use Rattle.syntax.specs.Tree.{TryTree, block_tree, catch_tree, catches_of, expression_tree, if_tree, optional_block_tree, statement_tree, statements_of}
+use Rattle.syntax.specs.Tree.{TryTree, block_tree, catch_tree, catches_of, expression_tree, if_tree, statement_tree, statements_of}
 use Rattle.resolved.proofs.Views.{statement_of_if, statement_of_while, statement_of_try, statement_of_nested}
 use Rattle.resolved.specs.Tree.{If}
 use Rattle.resolved.specs.TreeOf.{expression_of, block_of, handlers_of, statement_of}
@@ -21,19 +21,38 @@ use Rattle.types.proofs.body.BodyScope.+block.Goals as goal
 
 pub resolve_statement-resolve_if-requires : goal.resolve_statement-resolve_if-requires
 resolve_statement-resolve_if-requires t c =
-    let nodes = ap statement_nodes (ap statement_tree c.in-If.is ∙ if_is c.in-If.at c.in-If.condition c.in-If.accepted c.in-If.otherwise) in
+    let nodes = ap statement_nodes (ap statement_tree c.in-If.is ∙ if_is c.in-If.at c.in-If.condition c.in-If.accepted) in
     (omega (arith, nodes), omega (arith, nodes))
 
 pub resolve_statement-returns-in-If-clause-made : goal.resolve_statement-returns-in-If-clause-made
 resolve_statement-returns-in-If-clause-made t c =
     let before = c.args.self.now in
     subst (λ one. Resolves (at_point c.resolve_if.new.self statement_of) c.resolve_if.result (statement_finding (setting_of before) (point_of before) one))
-    (sym (ap statement_tree c.in-If.is ∙ if_is c.in-If.at c.in-If.condition c.in-If.accepted c.in-If.otherwise)) c.resolve_if.ensures.made
+    (sym (ap statement_tree c.in-If.is ∙ if_is c.in-If.at c.in-If.condition c.in-If.accepted)) c.resolve_if.ensures.made
 
 pub resolve_statement-returns-in-If-clause-grows : goal.resolve_statement-returns-in-If-clause-grows
 resolve_statement-returns-in-If-clause-grows t c =
     subst (λ one. OnOk c.resolve_if.result (taken c.resolve_if.new.self ≤ taken c.args.self.now + statement_nodes one))
-    (sym (ap statement_tree c.in-If.is ∙ if_is c.in-If.at c.in-If.condition c.in-If.accepted c.in-If.otherwise)) c.resolve_if.ensures.grows
+    (sym (ap statement_tree c.in-If.is ∙ if_is c.in-If.at c.in-If.condition c.in-If.accepted)) c.resolve_if.ensures.grows
+
+pub resolve_statement-resolve_if_else-requires : goal.resolve_statement-resolve_if_else-requires
+resolve_statement-resolve_if_else-requires t c =
+    let nodes = ap statement_nodes (ap statement_tree c.in-IfElse.is ∙ if_else_is c.in-IfElse.at c.in-IfElse.condition c.in-IfElse.accepted c.in-IfElse.otherwise
+    ∙ ap (λ block. if_tree c.in-IfElse.at (expression_tree c.in-IfElse.condition) (block_tree c.in-IfElse.accepted) (Some (block_tree block))) (sym c.deref.ensures)) in
+    (omega (arith, nodes), omega (arith, nodes))
+
+pub resolve_statement-returns-in-IfElse-clause-made : goal.resolve_statement-returns-in-IfElse-clause-made
+resolve_statement-returns-in-IfElse-clause-made t c =
+    let before = c.args.self.now in
+    subst (λ one. Resolves (at_point c.resolve_if_else.new.self statement_of) c.resolve_if_else.result (statement_finding (setting_of before) (point_of before) one))
+    (sym (ap statement_tree c.in-IfElse.is ∙ if_else_is c.in-IfElse.at c.in-IfElse.condition c.in-IfElse.accepted c.in-IfElse.otherwise
+    ∙ ap (λ block. if_tree c.in-IfElse.at (expression_tree c.in-IfElse.condition) (block_tree c.in-IfElse.accepted) (Some (block_tree block))) (sym c.deref.ensures))) c.resolve_if_else.ensures.made
+
+pub resolve_statement-returns-in-IfElse-clause-grows : goal.resolve_statement-returns-in-IfElse-clause-grows
+resolve_statement-returns-in-IfElse-clause-grows t c =
+    subst (λ one. OnOk c.resolve_if_else.result (taken c.resolve_if_else.new.self ≤ taken c.args.self.now + statement_nodes one))
+    (sym (ap statement_tree c.in-IfElse.is ∙ if_else_is c.in-IfElse.at c.in-IfElse.condition c.in-IfElse.accepted c.in-IfElse.otherwise
+    ∙ ap (λ block. if_tree c.in-IfElse.at (expression_tree c.in-IfElse.condition) (block_tree c.in-IfElse.accepted) (Some (block_tree block))) (sym c.deref.ensures))) c.resolve_if_else.ensures.grows
 
 pub resolve_statement-resolve_while-requires : goal.resolve_statement-resolve_while-requires
 resolve_statement-resolve_while-requires t c =
@@ -54,7 +73,7 @@ resolve_statement-returns-in-While-clause-grows t c =
 pub resolve_statement-resolve_try-requires : goal.resolve_statement-resolve_try-requires
 resolve_statement-resolve_try-requires t c =
     let nodes = ap statement_nodes (ap statement_tree c.in-Try.is ∙ try_is c.in-Try.at c.in-Try.body c.in-Try.catches
-    ∙ ap (λ list. TryTree c.in-Try.at (block_tree c.in-Try.body) (catches_of (map catch_tree list))) (sym c.deref.ensures.value)) in
+    ∙ ap (λ list. TryTree c.in-Try.at (block_tree c.in-Try.body) (catches_of (map catch_tree list))) (sym c.deref-in-Try.ensures.value)) in
     (omega (arith, nodes), omega (arith, nodes))
 
 pub resolve_statement-returns-in-Try-clause-made : goal.resolve_statement-returns-in-Try-clause-made
@@ -62,13 +81,13 @@ resolve_statement-returns-in-Try-clause-made t c =
     let before = c.args.self.now in
     subst (λ one. Resolves (at_point c.resolve_try.new.self statement_of) c.resolve_try.result (statement_finding (setting_of before) (point_of before) one))
     (sym (ap statement_tree c.in-Try.is ∙ try_is c.in-Try.at c.in-Try.body c.in-Try.catches
-    ∙ ap (λ list. TryTree c.in-Try.at (block_tree c.in-Try.body) (catches_of (map catch_tree list))) (sym c.deref.ensures.value))) c.resolve_try.ensures.made
+    ∙ ap (λ list. TryTree c.in-Try.at (block_tree c.in-Try.body) (catches_of (map catch_tree list))) (sym c.deref-in-Try.ensures.value))) c.resolve_try.ensures.made
 
 pub resolve_statement-returns-in-Try-clause-grows : goal.resolve_statement-returns-in-Try-clause-grows
 resolve_statement-returns-in-Try-clause-grows t c =
     subst (λ one. OnOk c.resolve_try.result (taken c.resolve_try.new.self ≤ taken c.args.self.now + statement_nodes one))
     (sym (ap statement_tree c.in-Try.is ∙ try_is c.in-Try.at c.in-Try.body c.in-Try.catches
-    ∙ ap (λ list. TryTree c.in-Try.at (block_tree c.in-Try.body) (catches_of (map catch_tree list))) (sym c.deref.ensures.value))) c.resolve_try.ensures.grows
+    ∙ ap (λ list. TryTree c.in-Try.at (block_tree c.in-Try.body) (catches_of (map catch_tree list))) (sym c.deref-in-Try.ensures.value))) c.resolve_try.ensures.grows
 
 pub resolve_statement-resolve_nested-requires : goal.resolve_statement-resolve_nested-requires
 resolve_statement-resolve_nested-requires t c =
@@ -93,11 +112,11 @@ resolve_if-returns-in_err-condition-clause-made t c =
     let before = c.args.self.now in
     let p = err_from_is_err_and c.from_residual.result c.from_residual.ensures.1 in
     rw (p.1, p.2) (condition_wrong (setting_of before) (point_of before) c.args.at (expression_tree c.args.condition.now)
-    (block_tree c.args.accepted.now) (optional_block_tree c.args.otherwise.now) c.in_err-condition.field-0.0 c.in_err-condition.ensures)
+    (block_tree c.args.accepted.now) None c.in_err-condition.field-0.0 c.in_err-condition.ensures)
 
 pub resolve_if-resolve_block-requires : goal.resolve_if-resolve_block-requires
 resolve_if-resolve_block-requires t c =
-    let within = if_nodes c.args.at (expression_tree c.args.condition.now) (block_tree c.args.accepted.now) (optional_block_tree c.args.otherwise.now) in
+    let within = if_nodes c.args.at (expression_tree c.args.condition.now) (block_tree c.args.accepted.now) None in
     (omega (arith, within), omega (arith, within))
 
 pub resolve_if-returns-in_err-accepted-clause-made : goal.resolve_if-returns-in_err-accepted-clause-made
@@ -105,61 +124,72 @@ resolve_if-returns-in_err-accepted-clause-made t c =
     let before = c.args.self.now in
     let p = err_from_is_err_and c.from_residual-in_err-accepted.result c.from_residual-in_err-accepted.ensures.1 in
     rw (p.1, p.2) (if_wrong (setting_of before) (point_of before) c.args.at (expression_tree c.args.condition.now) (expression_of c.in_ok-condition.condition) c.in_ok-condition.ensures
-    (block_tree c.args.accepted.now) (optional_block_tree c.args.otherwise.now) c.in_err-accepted.field-0.0 c.in_err-accepted.ensures.made)
+    (block_tree c.args.accepted.now) None c.in_err-accepted.field-0.0 c.in_err-accepted.ensures.made)
 
-pub resolve_if-resolve_block-requires-in-Some : goal.resolve_if-resolve_block-requires-in-Some
-resolve_if-resolve_block-requires-in-Some t c =
-    let nodes = ap (λ otherwise. statement_nodes (if_tree c.args.at (expression_tree c.args.condition.now) (block_tree c.args.accepted.now) (optional_block_tree otherwise))) c.in-Some.is in
-    (omega (arith, nodes, c.in_ok-accepted.ensures.grows), omega (arith, nodes, c.in_ok-accepted.ensures.grows))
-
-pub resolve_if-returns-in_err-otherwise-in-Some-clause-made : goal.resolve_if-returns-in_err-otherwise-in-Some-clause-made
-resolve_if-returns-in_err-otherwise-in-Some-clause-made t c =
-    let before = c.args.self.now in
-    let p = err_from_is_err_and c.from_residual-in_err-otherwise-in-Some.result c.from_residual-in_err-otherwise-in-Some.ensures.1 in
-    let tree = ap (λ otherwise. if_tree c.args.at (expression_tree c.args.condition.now) (block_tree c.args.accepted.now) (optional_block_tree otherwise)) c.in-Some.is in
-    let second = subst (λ setting. IfRefused (IsRefusalOf (block_finding setting (point_of c.resolve_block.new.self) (block_tree c.in-Some.otherwise))) c.in_err-otherwise-in-Some.field-0.0)
-    (setting_same before c.resolve_block.new.self c.in_ok-accepted.ensures.later) c.in_err-otherwise-in-Some.ensures.made in
-    let wrong = else_wrong (setting_of before) (point_of before) c.args.at (expression_tree c.args.condition.now) (expression_of c.in_ok-condition.condition) c.in_ok-condition.ensures
-    (block_tree c.args.accepted.now) (block_tree c.in-Some.otherwise) (point_of c.resolve_block.new.self) (block_of c.in_ok-accepted.accepted.items) c.in_err-otherwise-in-Some.field-0.0 c.in_ok-accepted.ensures.made second in
-    rw (p.1, p.2) (subst (λ one. IfRefused (IsRefusalOf (statement_finding (setting_of before) (point_of before) one)) c.in_err-otherwise-in-Some.field-0.0) (sym tree) wrong)
-
-pub resolve_if-returns-in_ok-otherwise-in-Some-clause-made : goal.resolve_if-returns-in_ok-otherwise-in-Some-clause-made
-resolve_if-returns-in_ok-otherwise-in-Some-clause-made t c =
-    let before = c.args.self.now in
-    let after = c.resolve_block-in-Some.new.self in
-    let tree = ap (λ otherwise. if_tree c.args.at (expression_tree c.args.condition.now) (block_tree c.args.accepted.now) (optional_block_tree otherwise)) c.in-Some.is in
-    let second = subst (λ setting. block_finding setting (point_of c.resolve_block.new.self) (block_tree c.in-Some.otherwise) ≡ Ok (point_of after, block_of c.in_ok-otherwise-in-Some.otherwise.items))
-    (setting_same before c.resolve_block.new.self c.in_ok-accepted.ensures.later) c.in_ok-otherwise-in-Some.ensures.made in
-    ap (statement_finding (setting_of before) (point_of before)) tree
-    ∙ if_else_done (setting_of before) (point_of before) c.args.at (expression_tree c.args.condition.now) (expression_of c.in_ok-condition.condition) c.in_ok-condition.ensures
-    (block_tree c.args.accepted.now) (block_tree c.in-Some.otherwise) (point_of c.resolve_block.new.self) (point_of after) (block_of c.in_ok-accepted.accepted.items) (block_of c.in_ok-otherwise-in-Some.otherwise.items)
-    c.in_ok-accepted.ensures.made second
-    ∙ ap (λ one. Ok (point_of after, one)) (sym (statement_of_if c.args.at c.in_ok-condition.condition c.in_ok-accepted.accepted c.in_ok-otherwise-in-Some.otherwise))
-
-pub resolve_if-returns-in_ok-otherwise-in-Some-clause-later : goal.resolve_if-returns-in_ok-otherwise-in-Some-clause-later
-resolve_if-returns-in_ok-otherwise-in-Some-clause-later t c =
-    later_through c.args.self.now c.resolve_block.new.self c.resolve_block-in-Some.new.self c.in_ok-accepted.ensures.later c.in_ok-otherwise-in-Some.ensures.later
-
-pub resolve_if-returns-in_ok-otherwise-in-Some-clause-grows : goal.resolve_if-returns-in_ok-otherwise-in-Some-clause-grows
-resolve_if-returns-in_ok-otherwise-in-Some-clause-grows t c =
-    let nodes = ap (λ otherwise. statement_nodes (if_tree c.args.at (expression_tree c.args.condition.now) (block_tree c.args.accepted.now) (optional_block_tree otherwise))) c.in-Some.is in
-    omega (arith, nodes, c.in_ok-accepted.ensures.grows, c.in_ok-otherwise-in-Some.ensures.grows)
-
-pub resolve_if-returns-in-None-clause-made : goal.resolve_if-returns-in-None-clause-made
-resolve_if-returns-in-None-clause-made t c =
+pub resolve_if-returns-clause-made : goal.resolve_if-returns-clause-made
+resolve_if-returns-clause-made t c =
     let before = c.args.self.now in
     let after = c.resolve_block.new.self in
-    let tree = ap (λ otherwise. if_tree c.args.at (expression_tree c.args.condition.now) (block_tree c.args.accepted.now) (optional_block_tree otherwise)) c.in-None.is in
-    ap (statement_finding (setting_of before) (point_of before)) tree
-    ∙ if_done (setting_of before) (point_of before) c.args.at (expression_tree c.args.condition.now) (expression_of c.in_ok-condition.condition) c.in_ok-condition.ensures
+    if_done (setting_of before) (point_of before) c.args.at (expression_tree c.args.condition.now) (expression_of c.in_ok-condition.condition) c.in_ok-condition.ensures
     (block_tree c.args.accepted.now) (point_of after) (block_of c.in_ok-accepted.accepted.items) c.in_ok-accepted.ensures.made
     ∙ ap (λ one. Ok (point_of after, one)) (ap (λ list. If c.args.at (expression_of c.in_ok-condition.condition) (block_of c.in_ok-accepted.accepted.items) (block_of list)) (sym c.new.ensures.items)
     ∙ sym (statement_of_if c.args.at c.in_ok-condition.condition c.in_ok-accepted.accepted c.new.result))
 
-pub resolve_if-returns-in-None-clause-grows : goal.resolve_if-returns-in-None-clause-grows
-resolve_if-returns-in-None-clause-grows t c =
-    let nodes = ap (λ otherwise. statement_nodes (if_tree c.args.at (expression_tree c.args.condition.now) (block_tree c.args.accepted.now) (optional_block_tree otherwise))) c.in-None.is in
-    omega (arith, nodes, c.in_ok-accepted.ensures.grows)
+pub resolve_if-returns-clause-grows : goal.resolve_if-returns-clause-grows
+resolve_if-returns-clause-grows t c = omega (arith, c.in_ok-accepted.ensures.grows)
+
+-- ---- conditions with two blocks
+
+pub resolve_if_else-returns-in_err-condition-clause-made : goal.resolve_if_else-returns-in_err-condition-clause-made
+resolve_if_else-returns-in_err-condition-clause-made t c =
+    let before = c.args.self.now in
+    let p = err_from_is_err_and c.from_residual.result c.from_residual.ensures.1 in
+    rw (p.1, p.2) (condition_wrong (setting_of before) (point_of before) c.args.at (expression_tree c.args.condition.now)
+    (block_tree c.args.accepted.now) (Some (block_tree c.args.otherwise.now)) c.in_err-condition.field-0.0 c.in_err-condition.ensures)
+
+pub resolve_if_else-resolve_block-requires : goal.resolve_if_else-resolve_block-requires
+resolve_if_else-resolve_block-requires t c =
+    let within = if_nodes c.args.at (expression_tree c.args.condition.now) (block_tree c.args.accepted.now) (Some (block_tree c.args.otherwise.now)) in
+    (omega (arith, within), omega (arith, within))
+
+pub resolve_if_else-returns-in_err-accepted-clause-made : goal.resolve_if_else-returns-in_err-accepted-clause-made
+resolve_if_else-returns-in_err-accepted-clause-made t c =
+    let before = c.args.self.now in
+    let p = err_from_is_err_and c.from_residual-in_err-accepted.result c.from_residual-in_err-accepted.ensures.1 in
+    rw (p.1, p.2) (if_wrong (setting_of before) (point_of before) c.args.at (expression_tree c.args.condition.now) (expression_of c.in_ok-condition.condition) c.in_ok-condition.ensures
+    (block_tree c.args.accepted.now) (Some (block_tree c.args.otherwise.now)) c.in_err-accepted.field-0.0 c.in_err-accepted.ensures.made)
+
+pub resolve_if_else-resolve_block-requires-2 : goal.resolve_if_else-resolve_block-requires-2
+resolve_if_else-resolve_block-requires-2 t c =
+    (omega (arith, c.in_ok-accepted.ensures.grows), omega (arith, c.in_ok-accepted.ensures.grows))
+
+pub resolve_if_else-returns-in_err-otherwise-clause-made : goal.resolve_if_else-returns-in_err-otherwise-clause-made
+resolve_if_else-returns-in_err-otherwise-clause-made t c =
+    let before = c.args.self.now in
+    let p = err_from_is_err_and c.from_residual-in_err-otherwise.result c.from_residual-in_err-otherwise.ensures.1 in
+    let second = subst (λ setting. IfRefused (IsRefusalOf (block_finding setting (point_of c.resolve_block.new.self) (block_tree c.args.otherwise.now))) c.in_err-otherwise.field-0.0)
+    (setting_same before c.resolve_block.new.self c.in_ok-accepted.ensures.later) c.in_err-otherwise.ensures.made in
+    rw (p.1, p.2) (else_wrong (setting_of before) (point_of before) c.args.at (expression_tree c.args.condition.now) (expression_of c.in_ok-condition.condition) c.in_ok-condition.ensures
+    (block_tree c.args.accepted.now) (block_tree c.args.otherwise.now) (point_of c.resolve_block.new.self) (block_of c.in_ok-accepted.accepted.items) c.in_err-otherwise.field-0.0 c.in_ok-accepted.ensures.made second)
+
+pub resolve_if_else-returns-clause-made : goal.resolve_if_else-returns-clause-made
+resolve_if_else-returns-clause-made t c =
+    let before = c.args.self.now in
+    let after = c.resolve_block-2.new.self in
+    let second = subst (λ setting. block_finding setting (point_of c.resolve_block.new.self) (block_tree c.args.otherwise.now) ≡ Ok (point_of after, block_of c.in_ok-otherwise.otherwise.items))
+    (setting_same before c.resolve_block.new.self c.in_ok-accepted.ensures.later) c.in_ok-otherwise.ensures.made in
+    if_else_done (setting_of before) (point_of before) c.args.at (expression_tree c.args.condition.now) (expression_of c.in_ok-condition.condition) c.in_ok-condition.ensures
+    (block_tree c.args.accepted.now) (block_tree c.args.otherwise.now) (point_of c.resolve_block.new.self) (point_of after) (block_of c.in_ok-accepted.accepted.items) (block_of c.in_ok-otherwise.otherwise.items)
+    c.in_ok-accepted.ensures.made second
+    ∙ ap (λ one. Ok (point_of after, one)) (sym (statement_of_if c.args.at c.in_ok-condition.condition c.in_ok-accepted.accepted c.in_ok-otherwise.otherwise))
+
+pub resolve_if_else-returns-clause-later : goal.resolve_if_else-returns-clause-later
+resolve_if_else-returns-clause-later t c =
+    later_through c.args.self.now c.resolve_block.new.self c.resolve_block-2.new.self c.in_ok-accepted.ensures.later c.in_ok-otherwise.ensures.later
+
+pub resolve_if_else-returns-clause-grows : goal.resolve_if_else-returns-clause-grows
+resolve_if_else-returns-clause-grows t c =
+    omega (arith, c.in_ok-accepted.ensures.grows, c.in_ok-otherwise.ensures.grows)
 
 -- ---- loops
 

@@ -1,6 +1,6 @@
-use Rattle.std.proofs.Common.{◌+◌, ◌*◌, map}
+use Rattle.std.proofs.Common.{◌+◌, ◌*◌, map, None, Some}
 use Rattle.syntax.specs.Nodes.{block_nodes, catches_nodes, statement_nodes, statements_nodes}
-use Rattle.syntax.specs.Tree.{NestedTree, TryTree, WhileTree, block_tree, catch_tree, catches_of, expression_tree, if_tree, optional_block_tree, statement_tree, statements_of}
+use Rattle.syntax.specs.Tree.{NestedTree, TryTree, WhileTree, block_tree, catch_tree, catches_of, expression_tree, if_tree, statement_tree, statements_of}
 use Rattle.types.proofs.Along.{AlongStatements, AlongCatches}
 use Rattle.types.proofs.body.BodyScope.+block.Given as goal
 
@@ -18,7 +18,10 @@ abbrev pub decreases-resolve_statement : goal.decreases-resolve_statement
 decreases-resolve_statement l = 3 * statement_nodes (statement_tree l.written.now) + 1
 
 abbrev pub decreases-resolve_if : goal.decreases-resolve_if
-decreases-resolve_if l = 3 * statement_nodes (if_tree l.at (expression_tree l.condition.now) (block_tree l.accepted.now) (optional_block_tree l.otherwise.now))
+decreases-resolve_if l = 3 * statement_nodes (if_tree l.at (expression_tree l.condition.now) (block_tree l.accepted.now) None)
+
+abbrev pub decreases-resolve_if_else : goal.decreases-resolve_if_else
+decreases-resolve_if_else l = 3 * statement_nodes (if_tree l.at (expression_tree l.condition.now) (block_tree l.accepted.now) (Some (block_tree l.otherwise.now)))
 
 abbrev pub decreases-resolve_while : goal.decreases-resolve_while
 decreases-resolve_while l = 3 * statement_nodes (WhileTree l.at (expression_tree l.condition.now) (block_tree l.body.now))

@@ -1,42 +1,58 @@
 use Rattle.std.proofs.Common.{Some, ap, length, sym, ◌∙◌, arith}
-use Rattle.verifier.specs.Flow.{Leaves}
 use Rattle.verifier.specs.Operands.{list_of}
 use Rattle.verifier.proofs.Reaching.{waiting_kept}
 use Rattle.verifier.proofs.search.ReachedOffsets.visit.Goals as goal
 
 pub raise-requires-clause-raising : goal.raise-requires-clause-raising
 raise-requires-clause-raising g c =
-    let e = c.in_ok-after.ensures.effect in
-    let applied = c.in_ok-after.ensures.accepted in
     record {
       body = c.requires.body;
       boundaries = c.requires.boundaries;
-      searching = applied.searching;
-      there = record { instruction = c.args.instruction; there = c.requires.instruction; kinds = e.kinds; has = e.has };
-      waiting = waiting_kept c.args.body.now.procedure.now c.args.coverage.now c.args.self.now c.apply.new.self applied.keeps c.requires.waiting;
-      room = omega (arith, applied.few, applied.left, c.requires.room);
+      searching = c.requires.searching;
+      there = record { instruction = c.args.instruction; there = c.requires.instruction; kinds = list_of c.args.self.now.operands c.args.listed.list; has = c.requires.listed.list };
+      waiting = c.requires.waiting;
+      room = omega (arith, c.requires.room);
     }
 
-pub go_on-requires-clause-effect : goal.go_on-requires-clause-effect
-go_on-requires-clause-effect g c =
-    let e = c.in_ok-after.ensures.effect in
+pub apply-requires-clause-listed : goal.apply-requires-clause-listed
+apply-requires-clause-listed g c =
     let steps = c.in_ok-raise.ensures.accepted.steps in
     record {
-      there = e.there;
-      kinds = e.kinds;
-      has = steps.keeps c.args.listed.at e.kinds e.has;
-      effect = e.effect ∙ ap Leaves (ap (λ ls. list_of ls c.in_ok-after.after) (sym steps.same));
+      number = c.requires.listed.number;
+      list = steps.keeps c.args.listed.at _ c.requires.listed.list ∙ ap Some (ap (λ ls. list_of ls c.args.listed.list) (sym steps.same));
+      inside = omega (arith, c.requires.listed.inside, ap length steps.same);
     }
 
-pub go_on-requires-clause-deep : goal.go_on-requires-clause-deep
-go_on-requires-clause-deep g c =
+pub apply-requires-clause-room : goal.apply-requires-clause-room
+apply-requires-clause-room g c =
     let steps = c.in_ok-raise.ensures.accepted.steps in
-    omega (arith, c.in_ok-after.ensures.deep, ap length (ap (λ ls. list_of ls c.in_ok-after.after) steps.same), steps.deepest)
+    omega (arith, c.requires.room, ap length steps.same, steps.left)
 
-pub go_on-requires-clause-jumps : goal.go_on-requires-clause-jumps
-go_on-requires-clause-jumps g c =
+pub go_on-requires-clause-leaves : goal.go_on-requires-clause-leaves
+go_on-requires-clause-leaves g c =
+    let applied = c.in_ok-leaving.ensures in
+    record { instruction = c.args.instruction; effect = applied.effect; next = applied.next; jumps = applied.jumps }
+
+pub go_on-requires-clause-caught : goal.go_on-requires-clause-caught
+go_on-requires-clause-caught g c =
+    λ h has low high. c.in_ok-leaving.ensures.accepted.keeps h.target _ (c.in_ok-raise.ensures.accepted.caught h has low high)
+
+pub go_on-requires-clause-room : goal.go_on-requires-clause-room
+go_on-requires-clause-room g c =
     let steps = c.in_ok-raise.ensures.accepted.steps in
-    λ to e. steps.keeps to _ (c.in_ok-after.ensures.jumps to e) ∙ ap Some (ap (λ ls. list_of ls c.in_ok-after.after) (sym steps.same))
+    let applied = c.in_ok-leaving.ensures.accepted in
+    omega (arith, c.requires.room, ap length steps.same, steps.left, applied.few, applied.left)
 
 pub returns-clause-waiting : goal.returns-clause-waiting
-returns-clause-waiting g c = waiting_kept c.args.body.now.procedure.now c.raise.new.coverage c.raise.new.self c.go_on.new.self c.in_ok-next.ensures.keeps c.in_ok-raise.ensures.accepted.waiting
+returns-clause-waiting g c =
+    waiting_kept c.args.body.now.procedure.now c.raise.new.coverage c.raise.new.self c.go_on.new.self
+    (λ offset kinds has. c.in_ok-next.ensures.keeps offset kinds (c.in_ok-leaving.ensures.accepted.keeps offset kinds has))
+    c.in_ok-raise.ensures.accepted.waiting
+
+pub returns-clause-left : goal.returns-clause-left
+returns-clause-left g c =
+    omega (arith, c.in_ok-raise.ensures.accepted.steps.left, c.in_ok-leaving.ensures.accepted.left, c.in_ok-next.ensures.left)
+
+pub returns-clause-few : goal.returns-clause-few
+returns-clause-few g c =
+    omega (arith, ap length c.in_ok-raise.ensures.accepted.steps.same, c.in_ok-leaving.ensures.accepted.few, ap length c.in_ok-next.ensures.same)
