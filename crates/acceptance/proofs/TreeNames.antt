@@ -5,7 +5,8 @@ use Rattle.std.specs.Prelude.{All, IsUtf8}
 use Rattle.std.proofs.lemmas.List.Elements.{All-nil, All-cons}
 use Rattle.lexer.specs.Terminal.{Terminal}
 use Rattle.syntax.specs.Form.{Form, many, ◌·◌}
-use Rattle.syntax.specs.Grammar.{SpellsProgram, at, ◌◂◌, base, name, label, direction, channel, exception, global_value, global, written_result, procedure, item, program, optional, some, parameter}
+use Rattle.syntax.specs.Grammar.{SpellsProgram, at, ◌◂◌, base, name, label, direction, written_result, item, program, optional, some, parameter}
+use Rattle.parser.specs.Parts.{procedure, global, exception, channel, global_value}
 use Rattle.syntax.specs.Tree.{NameTree, ItemTree, ProgramTree}
 use Rattle.parser.proofs.Holds.{Each, Held, Holds, spelled_taken}
 use Rattle.types.specs.Laws.{HasUtf8Names}
@@ -47,7 +48,7 @@ module _ (room : ℕ) where
       subst IsNamed (sym h.2) (name_text h.0.1 both.1 both.3)
 
   global_named : (tree : ItemTree) (k : ℕ) → Having global tree k → IsNamed tree
-  unfolding global
+  unfolding global global_value
   global_named tree k h =
       let line = before (at "global" · base · label · name · global_value) ";" h.0 k h.1 in
       let both = line.1 in
@@ -66,7 +67,7 @@ module _ (room : ℕ) where
       subst IsNamed (sym h.2) (name_text h.0.0.0.0.0.0.1 named.1 named.3)
 
   item_named : (tree : ItemTree) (k : ℕ) → Having item tree k → IsNamed tree
-  unfolding item
+  unfolding item channel exception global global_value procedure
   item_named tree k h = elim h [
     | inl one ↦ channel_named tree k one
     | inr h ↦ elim h [

@@ -93,9 +93,7 @@ fn find_labels(alloc: Global, core: Core, ends: Ends) -> Result<Checked, OrNoMem
     ensures checked { IfOk result IsChecked }
     ensures rejected { IfErr result (IfRefused (RefusesProgram core)) }
 {
-    let system = gather(alloc, &core, &ends)?;
-    // The constraints say all that is asked for, and solving them takes as much memory.
-    drop(ends);
+    let system = gather(alloc, &core, ends)?;
     let written = LabelsUnder {
         hierarchy: &core.hierarchy,
         labels: &core.labels,

@@ -1,4 +1,5 @@
 pub mod Readers
 mod Isolating
 mod Coding
+mod Rules
 pub mod Typed

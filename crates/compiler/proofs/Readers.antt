@@ -57,12 +57,8 @@ module _ (program : Program) (m : ModuleContents) (same : HasInterfaceOf program
   pub agree-module : (h : PrincipalHierarchy) (p : ℕ) (first second : World) → AgreeOnInputs h m p first second
       → Agree h (λ n. label_under program.hierarchy h (channel_label program n)) program p first second
   agree-module h p first second agree n there input reads =
-      agree n (record {
-        channel = channel_contents (channel_at program n);
-        there = channel-there n there;
-        input = input;
-        reads = ap (λ label. may_read h p label) (sym (ap (λ (channel : Option ChannelContents). label_under m.hierarchy h (label_in channel)) (channel-there n there)) ∙ label_under-module h n) ∙ reads;
-      })
+      agree n (channel_contents (channel_at program n)) (channel-there n there) input
+      (ap (λ label. may_read h p label) (sym (ap (λ (channel : Option ChannelContents). label_under m.hierarchy h (label_in channel)) (channel-there n there)) ∙ label_under-module h n) ∙ reads)
     where
       channel-there : (k : ℕ) → k < length program.channels → slice_get m.channels k ≡ Some (channel_contents (channel_at program k))
       channel-there k below = ap (λ (all : List ChannelContents). slice_get all k) same.channels ∙ channel_there program.channels k (record { direction = channel.Output; name = []; label = [] }) below

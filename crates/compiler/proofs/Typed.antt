@@ -1,6 +1,6 @@
 -- Code is typed exactly where no rule refuses it.
 use Rattle.std.proofs.Common.{◌≡◌, inl, inr, refl, sym, ap, ◌∙◌, subst, ℕ, ◌+◌, ◌==◌, Bool, true, false, ◌&&◌, if◌then◌else◌, List, [], ◌∷◌, ◌++◌, get_or, Option, Some, None, arith}
-use Rattle.std.specs.Prelude.{All, IsTrue, nat_lt}
+use Rattle.std.specs.Prelude.{All, IsTrue, is_some, nat_lt}
 use Rattle.std.specs.Option.{option_map_or}
 use Rattle.std.proofs.lemmas.Bool.{and_parts, eqb-true, cases_eq}
 use Rattle.std.proofs.lemmas.List.Elements.{All-head, All-tail, Contains-get_or}
@@ -28,43 +28,62 @@ use Rattle.verifier.proofs.Laws.{changed_cases, changed_at, same_or_not, IsInFlo
 use Rattle.verifier.proofs.Offsets.{start_inside}
 use Rattle.verifier.proofs.Reported.{all_flow}
 use Rattle.verifier.proofs.Runs.{flows}
+use Rattle.compiler.proofs.Rules.{effect-is, left-is, there-is}
 use Rattle.compiler.specs.Laws.{TypedIsNotRefused}
-use Rattle.compiler.specs.TypedCode.{Reaches, IsTyped}
+use Rattle.compiler.specs.TypedCode.{Reaches, IsTyped, kinds_left, rule_in}
 use Rattle.compiler.specs.TypedCode as typed
 
 -- ---- what is typed is not refused
 
 module _ (m : ModuleContents) (p : ProcedureContents) where
   abbrev Right : Instruction → Type 0
-  Right i = IsTrue (option_map_or (is_start p) (entry_of i).target true && (signature m p i).there)
+  Right i = IsTrue (option_map_or (is_start p) (entry_of i).target true && is_some (rule_in m p i))
 
   abbrev RightHandler : Handler → Type 0
   RightHandler h = IsTrue (has_right_offsets p h && nat_lt h.exception (machine_code m).exceptions)
 
+  -- what an instruction leaves that was reached is its effect
+  leaves : IsTyped m p → (at : ℕ) (kinds after : List BaseType) (i : Instruction) → Reaches m p at kinds → instruction_at p.code at ≡ Some i → effect m p i kinds ≡ Leaves after
+      → kinds_left m p i kinds ≡ Some after
+  leaves t at kinds after i r is e =
+      let found = t.finds at kinds r in
+      let same : i ≡ found.0 = same_Some i found.0 (sym is ∙ found.2.there) in
+      let left : kinds_left m p i kinds ≡ Some found.1 = ap (λ x. kinds_left m p x kinds) same ∙ found.2.left in
+      let both : Leaves found.1 ≡ Leaves after = sym (effect-is m p i kinds found.1 left) ∙ e in
+      let equal : found.1 ≡ after = cc in
+      left ∙ ap (λ l. Some l) equal
+
+  -- along an edge
+  along : IsTyped m p → (at : ℕ) (kinds : List BaseType) (to : ℕ) (after : List BaseType) → Reaches m p at kinds → Edge m p at kinds to after → Reaches m p to after
+  along t at kinds to after r (next i _ _ is e goes to_is) =
+      subst (λ a. Reaches m p a after) (sym to_is) (typed.next at kinds after i r (record { there = is; left = leaves t at kinds after i r is e }) goes)
+  along t at kinds to after r (jumps i _ _ is e target) = typed.jumps at to kinds after i r (record { there = is; left = leaves t at kinds after i r is e }) target
+  along t at kinds _ _ r (caught i handler is found start end) = typed.caught at kinds handler r found start end
+
   -- what a flow has control may reach
-  reached : (table : ℕ → Option (List BaseType)) → Flow m p table → (at : ℕ) (kinds : List BaseType) → table at ≡ Some kinds → Reaches m p at kinds
-  reached _ starts at kinds e =
+  reached : IsTyped m p → (table : ℕ → Option (List BaseType)) → Flow m p table → (at : ℕ) (kinds : List BaseType) → table at ≡ Some kinds → Reaches m p at kinds
+  reached t _ starts at kinds e =
       elim (changed_cases nowhere 0 [] at kinds e) [
         | inl h ↦ subst (λ a. Reaches m p a kinds) (sym h.0) (subst (Reaches m p 0) h.1 typed.starts)
         | inr h ↦ absurd (let no : ◌≡◌ {A = Option (List BaseType)} None (Some kinds) = h in cc)
       ]
-  reached _ (grows table from before to after f has edge none) at kinds e =
+  reached t _ (grows table from before to after f has edge none) at kinds e =
       elim (changed_cases table to after at kinds e) [
-        | inl h ↦ subst (λ a. Reaches m p a kinds) (sym h.0) (subst (Reaches m p to) h.1 (typed.goes from before to after (reached table f from before has) edge))
-        | inr h ↦ reached table f at kinds h
+        | inl h ↦ subst (λ a. Reaches m p a kinds) (sym h.0) (subst (Reaches m p to) h.1 (along t from before to after (reached t table f from before has) edge))
+        | inr h ↦ reached t table f at kinds h
       ]
 
   well : IsTyped m p → (offset : ℕ) (wrong : CodeRefusalKind) → IsRefusedForOperands m p offset wrong → ⊥
   well t _ _ (misses table at kinds i wrong f has is e) =
-      let found = t.finds at kinds (reached table f at kinds has) in
-      let same : i ≡ found.0 = same_Some i found.0 (sym is ∙ found.2) in
-      let no : Misses wrong ≡ Leaves found.1 = sym e ∙ (ap (λ x. effect m p x kinds) same ∙ found.3) in
+      let found = t.finds at kinds (reached t table f at kinds has) in
+      let same : i ≡ found.0 = same_Some i found.0 (sym is ∙ found.2.there) in
+      let no : Misses wrong ≡ Leaves found.1 = sym e ∙ (ap (λ x. effect m p x kinds) same ∙ effect-is m p found.0 kinds found.1 found.2.left) in
       absurd (cc)
   well t _ _ (meets table at kinds to after others f has edge inside there ne) =
-      ne (t.one to after others (typed.goes at kinds to after (reached table f at kinds has) edge) (reached table f to others there))
+      ne (t.one to after others (along t at kinds to after (reached t table f at kinds has) edge) (reached t table f to others there))
   well t _ _ (falls table kinds f has) =
-      let found = t.finds (code_length p.code) kinds (reached table f (code_length p.code) kinds has) in
-      absurd (omega (arith, start_inside p.code (code_length p.code) found.0 found.2))
+      let found = t.finds (code_length p.code) kinds (reached t table f (code_length p.code) kinds has) in
+      absurd (omega (arith, start_inside p.code (code_length p.code) found.0 found.2.there))
 
   both_right : (a b : Bool) → IsTrue (a && b) → (if a then unless b kind.SlotOrIndex else Some kind.Jump) ≡ None
   both_right a b h = let parts = and_parts a b h in rw (parts.0, parts.1) refl
@@ -73,7 +92,8 @@ module _ (m : ModuleContents) (p : ProcedureContents) where
   no_instructions number offset [] right = refl
   no_instructions number offset (i ∷ code) right =
       ap (λ (o : Option CodeRefusalKind). refusals_at number offset o ++ instruction_refusals m number p (offset + width_of i) code)
-      (both_right (option_map_or (is_start p) (entry_of i).target true) (signature m p i).there (All-head Right i code right))
+      (both_right (option_map_or (is_start p) (entry_of i).target true) (signature m p i).there
+      (subst (λ (b : Bool). IsTrue (option_map_or (is_start p) (entry_of i).target true && b)) (there-is m p i) (All-head Right i code right)))
       ∙ no_instructions number (offset + width_of i) code (All-tail Right i code right)
 
   no_handlers : (number : ℕ) (handlers : List Handler) → All RightHandler handlers → handler_refusals m number p handlers ≡ []
@@ -161,38 +181,55 @@ module _ (m : ModuleContents) (p : ProcedureContents) (right : IsRight m p) (fre
   join first _ f (grows second from before to after g has edge none) =
       let j = join first second f g in extended first second from before to after has edge j (j.table to) refl
 
-  in_flow : (at : ℕ) (kinds : List BaseType) → Reaches m p at kinds → IsInFlow m p at kinds
-  in_flow _ _ typed.starts = start_in_flow m p
-  in_flow _ _ (typed.goes at kinds to after r edge) = along_in_flow m p free at kinds to after (in_flow at kinds r) edge
-
-  boundary : (at : ℕ) (kinds : List BaseType) → Reaches m p at kinds → IsBoundary p at
-  boundary _ _ typed.starts = (boundaries m p right).first
-  boundary _ _ (typed.goes at kinds _ _ r (next i to after there leaves goes is)) = subst (IsBoundary p) (sym is) ((boundaries m p right).next at i there)
-  boundary _ _ (typed.goes at kinds _ _ r (jumps i to after there leaves target)) = inr ((boundaries m p right).jumps at i to there target)
-  boundary _ _ (typed.goes at kinds _ _ r (caught i handler there found start end)) = (boundaries m p right).caught handler found
-
-  stands : (at : ℕ) (kinds : List BaseType) → Reaches m p at kinds → (i : Instruction) × (instruction_at p.code at ≡ Some i)
-  stands at kinds r =
-      elim (boundary at kinds r) [
-        | inl ends ↦ absurd (flow_stays m p free kinds (subst (λ a. IsInFlow m p a kinds) ends (in_flow at kinds r)))
+  -- what is in the flow at a boundary is at an instruction
+  stands : (at : ℕ) (kinds : List BaseType) → IsInFlow m p at kinds → IsBoundary p at → (i : Instruction) × (instruction_at p.code at ≡ Some i)
+  stands at kinds flows boundary =
+      elim boundary [
+        | inl ends ↦ absurd (flow_stays m p free kinds (subst (λ a. IsInFlow m p a kinds) ends flows))
         | inr there ↦ there
       ]
 
-  finds : (at : ℕ) (kinds : List BaseType) → Reaches m p at kinds
-      → (i : Instruction) × (after : List BaseType) × (instruction_at p.code at ≡ Some i) × (effect m p i kinds ≡ Leaves after)
-  finds at kinds r = by (stands at kinds r)
+  -- what is reached is in the flow, at a boundary
+  in_flow : (at : ℕ) (kinds : List BaseType) → Reaches m p at kinds → IsInFlow m p at kinds × IsBoundary p at
+  in_flow _ _ typed.starts = (start_in_flow m p, (boundaries m p right).first)
+  in_flow _ _ (typed.next at kinds after i r leaves goes) = (
+    along_in_flow m p free at kinds (at + width_of i) after (in_flow at kinds r).0 (next i (at + width_of i) after leaves.there (effect-is m p i kinds after leaves.left) goes refl),
+    (boundaries m p right).next at i leaves.there,
+  )
+  in_flow _ _ (typed.jumps at to kinds after i r leaves target) = (
+    along_in_flow m p free at kinds to after (in_flow at kinds r).0 (jumps i to after leaves.there (effect-is m p i kinds after leaves.left) target),
+    inr ((boundaries m p right).jumps at i to leaves.there target),
+  )
+  in_flow _ _ (typed.caught at kinds handler r found start end) =
+      let before = in_flow at kinds r in
+      let here = stands at kinds before.0 before.1 in (
+        along_in_flow m p free at kinds handler.target [] before.0 (caught here.0 handler here.1 found start end),
+        (boundaries m p right).caught handler found,
+      )
+
+  right_parts : (a b : Bool) → (if a then unless b kind.SlotOrIndex else Some kind.Jump) ≡ None → IsTrue (a && b)
+  right_parts true b e = right_of_unless b kind.SlotOrIndex e
+  right_parts false b e = absurd (let no : Some kind.Jump ≡ None = e in cc)
+
+  right_at : (at : ℕ) (i : Instruction) → instruction_at p.code at ≡ Some i → IsTrue (option_map_or (is_start p) (entry_of i).target true && (signature m p i).there)
+  right_at at i is = right_parts (option_map_or (is_start p) (entry_of i).target true) (signature m p i).there (right.instructions at i is)
+
+  finds : (at : ℕ) (kinds : List BaseType) → Reaches m p at kinds → (i : Instruction) × (after : List BaseType) × typed.Leaves m p at kinds i after
+  finds at kinds r = by (stands at kinds (in_flow at kinds r).0 (in_flow at kinds r).1)
     where
-      by : ((i : Instruction) × (instruction_at p.code at ≡ Some i)) → (i : Instruction) × (after : List BaseType) × (instruction_at p.code at ≡ Some i) × (effect m p i kinds ≡ Leaves after)
+      by : ((i : Instruction) × (instruction_at p.code at ≡ Some i)) → (i : Instruction) × (after : List BaseType) × typed.Leaves m p at kinds i after
       by (i, there) = go (effect m p i kinds) refl
         where
-          go : (e : Effect) → effect m p i kinds ≡ e → (i : Instruction) × (after : List BaseType) × (instruction_at p.code at ≡ Some i) × (effect m p i kinds ≡ Leaves after)
-          go (Leaves after) e = (i, after, there, e)
-          go (Misses wrong) e = absurd (flow_finds m p free at kinds i wrong (in_flow at kinds r) there e)
+          go : (e : Effect) → effect m p i kinds ≡ e → (i : Instruction) × (after : List BaseType) × typed.Leaves m p at kinds i after
+          go (Leaves after) e =
+              let named = and_parts (option_map_or (is_start p) (entry_of i).target true) (signature m p i).there (right_at at i there) in
+              (i, after, record { there = there; left = left-is m p i kinds after named.1 e })
+          go (Misses wrong) e = absurd (flow_finds m p free at kinds i wrong (in_flow at kinds r).0 there e)
 
   one : (at : ℕ) (kinds others : List BaseType) → Reaches m p at kinds → Reaches m p at others → kinds ≡ others
   one at kinds others r s =
-      let a = in_flow at kinds r in
-      let b = in_flow at others s in
+      let a = (in_flow at kinds r).0 in
+      let b = (in_flow at others s).0 in
       let j = join a.table b.table a.flow b.flow in
       let same : Some kinds ≡ Some others = sym (j.has_first at kinds a.has) ∙ j.has_second at others b.has in
       cc
@@ -200,18 +237,15 @@ module _ (m : ModuleContents) (p : ProcedureContents) (right : IsRight m p) (fre
   typed_procedure : IsTyped m p
   typed_procedure = record {
     instructions = λ n x inside.
-        right_parts (option_map_or (is_start p) (entry_of (get_or p.code n x)).target true) (signature m p (get_or p.code n x)).there
-        (right.instructions (offset_at p.code n) (get_or p.code n x) (numbered_at p.code n ∙ slice_get-get_or p.code n x inside));
+        let i = get_or p.code n x in
+        subst (λ (b : Bool). IsTrue (option_map_or (is_start p) (entry_of i).target true && b)) (sym (there-is m p i))
+        (right_at (offset_at p.code n) i (numbered_at p.code n ∙ slice_get-get_or p.code n x inside));
     handlers = λ n x inside.
         right_parts (has_right_offsets p (get_or p.handlers n x)) (nat_lt (get_or p.handlers n x).exception (machine_code m).exceptions)
         (right.handlers (get_or p.handlers n x) (Contains-get_or p.handlers n x inside));
     finds = finds;
     one = one;
   }
-    where
-      right_parts : (a b : Bool) → (if a then unless b kind.SlotOrIndex else Some kind.Jump) ≡ None → IsTrue (a && b)
-      right_parts true b e = right_of_unless b kind.SlotOrIndex e
-      right_parts false b e = absurd (let no : Some kind.Jump ≡ None = e in cc)
 
 pub typed_from : (m : ModuleContents) → IsNotRefused m → All (IsTyped m) m.procedures
 typed_from m free = λ k p inside.

@@ -1,5 +1,6 @@
 -- Left sides to which joins were added.
-use Rattle.std.proofs.Common.{map, ◌≡◌, refl, sym, ap, ◌∙◌, List, [], ◌∷◌, ◌++◌, Bool, true, false, ◌||◌, ◌&&◌, ℕ, append_assoc, append-nil, take, length, get_or, ◌+◌, ◌<◌}
+use Rattle.std.proofs.Common.{arith, suc, map, ◌≡◌, refl, sym, ap, ◌∙◌, List, [], ◌∷◌, ◌++◌, Bool, true, false, not, ◌==◌, ◌||◌, ◌&&◌, ℕ, append_assoc, append-nil, take, length, get_or, ◌+◌, ◌<◌}
+use Rattle.std.proofs.lemmas.Bool.Decides.{nat_tests}
 use Rattle.std.proofs.Math.Bool.{or-true, or-false, or_assoc}
 use Rattle.std.specs.Prelude.{if◌then◌else◌}
 use Rattle.common.proofs.Cases.{map_next}
@@ -40,6 +41,17 @@ joined-same core table a b old new same is = is ∙ ap (λ join. left_parts tabl
 pub any-append : {A : Type 0} (xs ys : List A) → any_of (xs ++ ys) ≡ (any_of xs || any_of ys)
 any-append [] ys = refl
 any-append (x ∷ xs) ys = refl
+
+not_zero : (k : ℕ) → suc k == 0 ≡ false
+not_zero k = grind (arith, nat_tests)
+
+-- there are any where there are any others with the same list of something
+pub any-mapped : {A B C : Type 0} (f : A → C) (g : B → C) (xs : List A) (ys : List B) → map f xs ≡ map g ys
+    → not (length xs == 0) ≡ any_of ys
+any-mapped f g [] [] same = refl
+any-mapped f g (x ∷ xs) (y ∷ ys) same = ap not (not_zero (length xs))
+any-mapped f g [] (y ∷ ys) same = absurd (cc)
+any-mapped f g (x ∷ xs) [] same = absurd (cc)
 
 -- a join of two that were added one after the other
 pub both : (core : Core) (table : List Label) (whole a b a' b' : Join) (old middle new : List Atom)

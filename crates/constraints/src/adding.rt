@@ -6,7 +6,8 @@ ghost use Rattle.path_map.specs.Exceptions.{AreRaised};
 ghost use Rattle.gathering.specs.Names.{NamedAtom};
 ghost use Rattle.gathering.specs.Walk.{flow, inner_constraint, raised_flows, rule_constraint};
 ghost use Rattle.solver.specs.Rule.{rule_number};
-ghost use Rattle.std.specs.Prelude.{List, OnOk, [], ◌∷◌, ℕ};
+ghost use Rattle.std.specs.Prelude.{List, OnOk, [], ◌++◌, ◌<◌, ◌∷◌, ◌≡◌, ℕ};
+ghost use Rattle.std.specs.Vec.{vec_capacity, vec_len};
 
 use crate::around::Around;
 use crate::lefts::left_of_pc;
@@ -17,6 +18,33 @@ use resolved::statement::Exit;
 use resolved::target::Target;
 use solver::{Atom, Constraint, Left, Rule};
 use std::alloc::{AllocError, Global};
+
+// Makes room for one more constraint. A full list grows to two and a half times its length, so that most are moved once at most.
+#[inline(always)]
+fn make_room(constraints: &mut Vec<Constraint<Option<Target>>>) -> Result<(), AllocError>
+    ensures same { constraints.new.items ≡ constraints.old.items }
+    ensures room { OnOk result (vec_len constraints.new < vec_capacity constraints.new) }
+{
+    if constraints.len() < constraints.capacity() {
+        return Ok(());
+    }
+    let count = constraints.len();
+    constraints.reserve(count.saturating_add(count / 2).max(1))
+}
+
+// Adds a constraint behind the others.
+#[inline(always)]
+fn add(
+    constraint: Constraint<Option<Target>>,
+    constraints: &mut Vec<Constraint<Option<Target>>>,
+) -> Result<(), AllocError>
+    ensures { OnOk result (constraints.new.items
+        ≡ constraints.old.items ++ constraint ∷ []) }
+{
+    make_room(constraints)?;
+    constraints.push_reserved(constraint);
+    Ok(())
+}
 
 impl<'a> Table<'a> {
     /// Adds the constraint of a rule at this byte, whose right side is the label of the target.
@@ -35,13 +63,14 @@ impl<'a> Table<'a> {
             constraints.old.items constraints.new.items) }
     {
         let right = self.part(target);
-        constraints.push(Constraint {
+        let constraint = Constraint {
             at,
             rule,
             left,
             target: Some(target),
             right,
-        })?;
+        };
+        add(constraint, constraints)?;
         Ok(())
     }
 
@@ -57,13 +86,14 @@ impl<'a> Table<'a> {
             constraints.old.items constraints.new.items) }
     {
         let right = Atom::Unknown(number);
-        constraints.push(Constraint {
+        let constraint = Constraint {
             at: 0,
             rule: Rule::Between,
             left,
             target: None,
             right,
-        })?;
+        };
+        add(constraint, constraints)?;
         Ok(())
     }
 

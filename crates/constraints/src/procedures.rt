@@ -179,6 +179,12 @@ fn end_exit_unknowns(number: u32, barrier: u32, level: u32, only: bool) -> ExitU
     }
 }
 
+// How many constraints a program has at most in most cases: three for two statements and blocks.
+fn usual_count(ends: &Ends) -> usize {
+    let count = ends.len();
+    count.saturating_add(count / 2)
+}
+
 /// What is gathered of all procedures, but for the flows of the exceptions that calls raise, in place of which the calls are noted.
 pub(crate) fn walk_procedures(
     alloc: Global,
@@ -200,8 +206,7 @@ pub(crate) fn walk_procedures(
     let mut progress = Progress {
         index: 0,
         number: table.unknowns,
-        // There is about one for each statement and block.
-        constraints: Vec::with_capacity(alloc, ends.len())?,
+        constraints: Vec::with_capacity(alloc, usual_count(ends))?,
         thrown: vec![in alloc; none; exceptions]?,
         journal: Journal::new(alloc, exceptions)?,
     };

@@ -28,7 +28,7 @@ pub struct LabelConstraints {
 
 /// Gathers the label constraints of a program: some labels for their unknowns fit them exactly where the labels of the locals and the
 /// loops among these make every procedure labelled. Each has its byte and its rule, and a target by name, unless it is an inner one.
-/// The caller owes the exits of that program, which has no fault of its exits.
+/// The caller owes the exits of that program, which has no fault of its exits, and gives them up.
 ///
 /// It takes time and memory in proportion to the program, where the exceptions that a procedure declares count once for all of its calls,
 /// and by the logarithm of these wherever the exit unknown of one of them changes between two calls.
@@ -36,9 +36,9 @@ pub struct LabelConstraints {
 /// # Errors
 ///
 /// Memory ran out.
-pub fn gather(alloc: Global, core: &Core, ends: &Ends) -> Result<LabelConstraints, AllocError>
+pub fn gather(alloc: Global, core: &Core, ends: Ends) -> Result<LabelConstraints, AllocError>
     requires ended { exit_faults (program_of core.now) ≡ [] }
-    requires mapped { AreEndsOf (program_of core.now) ends.now }
+    requires mapped { AreEndsOf (program_of core.now) ends }
 
     // They stand for the program's demands, in their order, and a label that is not written has its number.
     ensures gathered { let program = program_of core.now in
@@ -60,7 +60,9 @@ pub fn gather(alloc: Global, core: &Core, ends: &Ends) -> Result<LabelConstraint
         ≤ 4 * program_nodes (program_of core.now)) }
 {
     let table = Table::of(alloc, core)?;
-    let progress = walk_procedures(alloc, &table, ends)?;
+    let progress = walk_procedures(alloc, &table, &ends)?;
+    // What was walked says all that is asked for, and what comes next takes as much memory.
+    drop(ends);
     let mut made = Made {
         number: progress.number,
         constraints: progress.constraints,

@@ -1,4 +1,4 @@
-//! The handlers of procedures, each found by a binary search.
+//! The handlers of procedures: a few are tried in their order, and many are found by a binary search.
 #![tactic(auto)]
 
 mod entries;

@@ -23,17 +23,20 @@ pub record IsCanonicalLabel (label : Label) : Type 0 where
   pub policies_ascend : IsStrictlySortedBy policy_cmp label
   pub each_canonical : All IsCanonicalPolicy label
 
--- the readers of a written policy without its owner, in ascending order and each once
-abbrev pub readers_with : ℕ → List ℕ → List ℕ
-readers_with owner readers = filter (λ reader. not (reader == owner)) (ascending_set nat_cmp readers)
-
--- the policy that is written with an owner and any readers
+-- the policy that is written with an owner and any readers: these without the owner, in ascending order and each once
 abbrev pub written_policy : ℕ → List ℕ → ReaderPolicy
-written_policy owner readers = record { owner = owner; readers = readers_with owner readers }
+written_policy owner readers =
+    record { owner = owner; readers = filter (λ reader. not (reader == owner)) (ascending_set nat_cmp readers) }
 
 -- the label that is written with these policies
 abbrev pub written_label : List ReaderPolicy → Label
 written_label policies = ascending_set policy_cmp policies
+
+-- ---- parts, by which code and proofs speak of them
+
+-- the readers of a written policy without its owner, in ascending order and each once
+abbrev pub readers_with : ℕ → List ℕ → List ℕ
+readers_with owner readers = filter (λ reader. not (reader == owner)) (ascending_set nat_cmp readers)
 
 -- the join of two labels: the policies of both
 abbrev pub joined : Label → Label → Label

@@ -8,24 +8,27 @@ use Rattle.labels.specs.Label.{Label, ReaderPolicy, FlowsTo}
 abbrev pub KeepsActsFor : (smaller larger : PrincipalHierarchy) → (ℕ → ℕ) → Type 0
 KeepsActsFor smaller larger carry = (a b : ℕ) → ActsFor smaller.pairs a b → ActsFor larger.pairs (carry a) (carry b)
 
--- a label with its principals renumbered
+-- a policy with its principals renumbered
 abbrev pub carried_policy : (ℕ → ℕ) → ReaderPolicy → ReaderPolicy
 carried_policy carry policy = record { owner = carry policy.owner; readers = map carry policy.readers }
-
-abbrev pub carried_label : (ℕ → ℕ) → Label → Label
-carried_label carry label = map (carried_policy carry) label
 
 -- the number that a principal of the first hierarchy has in the second, by its name; 0 for a number without a name
 abbrev pub number_by_name : (smaller larger : PrincipalHierarchy) → ℕ → ℕ
 number_by_name smaller larger a = unwrap_or (option_and_then (λ name. number_of larger name) (slice_get smaller.names a)) 0
 
+-- what a label of the first hierarchy is under the second: its principals are carried over by name
+abbrev pub label_under : (smaller larger : PrincipalHierarchy) → Label → Label
+label_under smaller larger label = map (carried_policy (number_by_name smaller larger)) label
+
+-- ---- parts, by which code and proofs speak of them
+
+-- a label with its principals renumbered
+abbrev pub carried_label : (ℕ → ℕ) → Label → Label
+carried_label carry label = map (carried_policy carry) label
+
 -- a list of numbers as a renumbering: each number becomes the one at its index, 0 where there is none
 abbrev pub numbered : List ℕ → ℕ → ℕ
 numbered numbers a = slice_index_or numbers a 0
-
--- what a label of the first hierarchy is under the second: its principals are carried over by name
-abbrev pub label_under : (smaller larger : PrincipalHierarchy) → Label → Label
-label_under smaller larger label = carried_label (number_by_name smaller larger) label
 
 -- a label of a hierarchy: each number in it is that of a principal
 abbrev pub IsPolicyOf : PrincipalHierarchy → ReaderPolicy → Type 0

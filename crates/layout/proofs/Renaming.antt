@@ -1,12 +1,14 @@
 -- A program whose code is laid out differently takes the same steps: each step commutes with the renaming of positions.
-use Rattle.std.proofs.Common.{◌≡◌, ℕ, zero, suc, ◌+◌, ◌∙◌, refl, sym, ap, Bool, true, false, cond, List, [], ◌∷◌, length, map, Option, Some, None, ltb}
+use Rattle.std.proofs.Common.{◌≡◌, ℕ, zero, suc, ◌+◌, ◌∙◌, refl, sym, ap, subst, Bool, true, false, cond, List, [], ◌∷◌, length, map, Option, Some, None, ltb}
 use Rattle.std.specs.Option.{option_map}
 use Rattle.std.proofs.lemmas.List.{length-map}
+use Rattle.modules.proofs.Tabled.{step-is}
 use Rattle.modules.proofs.Alike.{act-alike, with_sent, with_memory}
 use Rattle.modules.specs.declared.instruction.Instruction.{Instruction}
 use Rattle.modules.specs.declared.value.Cell.{Cell}
 use Rattle.modules.specs.declared.declaration.Slot.{Slot}
-use Rattle.modules.specs.Machine.{Frame, Caller, State, Machine, Running, Ended, Stuck, Deep, MachineCode, goes_on, goes_to, handled, unwound, raised, new_frame, enters, act, step, exec}
+use Rattle.modules.specs.Machine.{Frame, Caller, State, Machine, Running, Ended, Stuck, Deep, MachineCode, goes_on, goes_to, unwound, raised, new_frame, step, exec}
+use Rattle.modules.specs.Transitions.{handled, enters, act}
 use Rattle.modules.specs.MachineParts.{leaves, leaves_value, acts}
 use Rattle.modules.specs.Targets.{renamed_instruction}
 use Rattle.layout.specs.SameRuns.{renamed_frame, renamed_caller, renamed_state, renamed}
@@ -108,8 +110,10 @@ acts-same l s (Some instruction) e = act-same l instruction s (l.goes_next s.fra
 
 step-same : (l : Relaid) (m : Machine) → Same l (step (relaid l) (renamed l.rename m)) (step l.program m)
 step-same l (Running s) =
-    ap (λ (fetched : Option Instruction). acts (relaid l) (moved l s) fetched) (l.fetched s.frame.procedure s.frame.position)
-    ∙ acts-same l s (l.program.fetch s.frame.procedure s.frame.position) refl
+    subst (Same l (step (relaid l) (Running (moved l s)))) (sym (step-is l.program s))
+    (step-is (relaid l) (moved l s)
+    ∙ ap (λ (fetched : Option Instruction). acts (relaid l) (moved l s) fetched) (l.fetched s.frame.procedure s.frame.position)
+    ∙ acts-same l s (l.program.fetch s.frame.procedure s.frame.position) refl)
 step-same l (Ended ending sent) = refl
 step-same l (Stuck sent) = refl
 

@@ -1,7 +1,8 @@
 -- What an instruction does is the same in two programs that differ in what they fetch alone.
 use Rattle.std.proofs.Common.{◌≡◌, ℕ, refl, ap, ◌∙◌, sym, List, [], ◌∷◌, Option, Some, None}
 use Rattle.modules.proofs.Alike.{act-alike}
-use Rattle.modules.specs.Machine.{Caller, State, Machine, MachineCode, act, enters, handled, raised, unwound}
+use Rattle.modules.specs.Machine.{Caller, State, Machine, MachineCode, raised, unwound}
+use Rattle.modules.specs.Transitions.{act, enters, handled}
 use Rattle.modules.specs.Targets.{renamed_instruction}
 use Rattle.modules.specs.declared.instruction.Instruction.{Instruction}
 use Rattle.modules.specs.declared.instruction.Instruction.TheVariants.{Jump, JumpIfFalse}

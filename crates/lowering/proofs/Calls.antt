@@ -25,7 +25,9 @@ use Rattle.isolation.proofs.Valued.{calls-give}
 use Rattle.modules.specs.declared.value.Cell.{Cell}
 use Rattle.modules.specs.declared.instruction.Instruction.TheVariants as instruction
 use Rattle.modules.specs.Machine as machine
-use Rattle.modules.specs.Machine.{Machine, Running, Caller, handled, unwound, enters, popped}
+use Rattle.modules.specs.Transitions as transitions
+use Rattle.modules.specs.Machine.{Machine, Running, Caller, unwound}
+use Rattle.modules.specs.Transitions.{handled, enters, popped}
 use Rattle.modules.specs.MachineParts.{calls}
 use Rattle.lowering.specs.Interface.{slot_contents}
 use Rattle.lowering.specs.Code.{block_falls, block_size, block_code, block_table}
@@ -150,7 +152,7 @@ module _ (program : Program) (formed : well_formed program ≡ true) (none : exi
 
     -- what the machine does at the call
     entered : (q : ℕ) (callee : ProcedureEntry) (found : slice_get program.procedures q ≡ Some callee) (vs : List Value) → ArgumentsFit (parameters_of callee) vs
-        → machine.act (setting_of program formed world f entry there callers).p (instruction.Call q) (state_at (setting_of program formed world f entry there callers) at (pushed vs []) s)
+        → transitions.act (setting_of program formed world f entry there callers).p (instruction.Call q) (state_at (setting_of program formed world f entry there callers) at (pushed vs []) s)
         ≡ enters (setting_of program formed world f entry there callers).p (state_at (setting_of program formed world f entry there callers) at (pushed vs []) s) q
         (map slot_contents callee.slots) (Some (cells_of vs, []))
     entered q callee found vs matches =

@@ -25,7 +25,8 @@ use Rattle.modules.specs.declared.value.Cell.{Cell}
 use Rattle.modules.specs.declared.value.Cell.TheVariants as cell
 use Rattle.modules.specs.declared.instruction.Instruction.{Instruction}
 use Rattle.modules.specs.declared.instruction.Instruction.TheVariants as instruction
-use Rattle.modules.specs.Machine.{Machine, act, goes_on}
+use Rattle.modules.specs.Machine.{Machine, goes_on}
+use Rattle.modules.specs.Transitions.{act}
 use Rattle.modules.specs.MachineParts.{operates}
 use Rattle.modules.specs.Operators as operators
 use Rattle.std.specs.Option.{option_map}

@@ -10,12 +10,14 @@ use Rattle.std.proofs.lemmas.List.Sums.{get_or-le-sum_by}
 use Rattle.std.proofs.lemmas.List.Folds.{list_any_at}
 use Rattle.std.proofs.lemmas.Option.{slice_get-map, slice_get_within, slice_get-get_or}
 use Rattle.resolved.specs.BitUse.{block_uses_bits, uses_bits}
+use Rattle.resolved.proofs.Judged.{bits-apart}
 use Rattle.resolved.specs.Names.{HasNames}
 use Rattle.resolved.specs.Program.{Program, ProcedureEntry, ResultEntry, GlobalEntry, SlotEntry}
 use Rattle.resolved.specs.WellFormed.{size_fits, cell_count, label_fits, first_fits, procedure_fits, procedure_nodes, program_nodes, node_limit, main_fits, well_formed}
 use Rattle.resolved.proofs.WellFormedParts.{ProcedureParts, procedure_parts, program_parts, passes_at}
 use Rattle.modules.specs.declared.instruction.Instruction.{Instruction}
 use Rattle.modules.specs.declared.instruction.Instruction.TheVariants as instruction
+use Rattle.modules.specs.declared.instruction.Storage.TheVariants.{Local}
 use Rattle.modules.specs.declared.declaration.Handler.{Handler}
 use Rattle.common.specs.declared.base_type.BaseType.{BaseType}
 use Rattle.common.specs.declared.base_type.BaseType.TheVariants as kind
@@ -50,6 +52,10 @@ use Rattle.common.specs.declared.limits.TheConstants.{MAX_CELLS}
 
 numbered-there : (version : Version) (x : Instruction) → IsNumbered version x → IsTrue (has_instruction version x)
 numbered-there version (instruction.Operate operator) h = h
+numbered-there version (instruction.Load Local k) h = refl
+numbered-there version (instruction.Store Local k) h = refl
+numbered-there version (instruction.LoadElement Local k) h = refl
+numbered-there version (instruction.StoreElement Local k) h = refl
 numbered-there version x h = refl
 
 numbered-fits : (version : Version) (n : ℕ) (x : Instruction) → n < 2 ^ 32 → IsNumbered version x → Below n x → OperandFits (entry_of x).operand
@@ -207,7 +213,7 @@ each-procedure program counts fits placed k d below =
     subst HasPositions (get_or-map (procedure_contents program) program.procedures k d (procedure_contents program d) below)
     (placed k (procedure_contents program d) (omega (arith, below, length-map program.procedures (procedure_contents program)))) in
     let allowed : Allows (module_version program) (block_uses_bits entry.body) = λ uses.
-    chosen (uses_bits program) (list_any_at (λ (procedure : ProcedureEntry). block_uses_bits procedure.body) program.procedures k d below uses) in
+    chosen (uses_bits program) (bits-apart program ∙ list_any_at (λ (procedure : ProcedureEntry). block_uses_bits procedure.body) program.procedures k d below uses) in
     procedure-fits (module_version program) program entry (tables-from program entry counts few) few
     (procedure_parts program entry (passes_at (procedure_fits program) program.procedures k (get_or program.procedures k d) fits (slice_get-get_or program.procedures k d below)))
     here allowed

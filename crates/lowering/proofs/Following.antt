@@ -4,13 +4,15 @@ use Rattle.std.proofs.Common.{◌≡◌, ℕ, zero, suc, ◌+◌, ◌≤◌, ref
 use Rattle.std.specs.Option.{option_map}
 use Rattle.std.proofs.Math.Path.{fun_ext}
 use Rattle.std.proofs.lemmas.Option.{slice_get-map}
+use Rattle.modules.proofs.Tabled.{step-is}
 use Rattle.modules.specs.declared.declaration.Handler.{Handler}
 use Rattle.modules.specs.declared.instruction.Instruction.{Instruction}
 use Rattle.modules.specs.declared.instruction.Instruction.TheVariants.{Jump, JumpIfFalse}
 use Rattle.modules.specs.declared.value.Cell.{Cell}
 use Rattle.modules.specs.declared.value.Cell.TheVariants as cell
 use Rattle.modules.specs.Contents.{ProcedureContents, ModuleContents}
-use Rattle.modules.specs.Machine.{State, Machine, Running, Ended, Stuck, MachineCode, Header, goes_to, act, step, exec, branches, handler_for, header_of, first_slots, first_state}
+use Rattle.modules.specs.Machine.{State, Machine, Running, Ended, Stuck, MachineCode, Header, goes_to, step, exec, handler_for, header_of, first_slots, first_state}
+use Rattle.modules.specs.Transitions.{act, branches}
 use Rattle.modules.specs.MachineParts.{acts, code_of, handlers_of, slots_in}
 use Rattle.modules.specs.Targets.{renamed_instruction}
 use Rattle.layout.specs.Runs.{graph_program}
@@ -78,7 +80,11 @@ module _ (p : MachineCode) (aim : ℕ → ℕ → ℕ) (lands : (s : State) (ope
 
   step-follows : (m : Machine) → Follows p 1 1 m (step (aimed p aim) m)
   step-follows (Running s) =
-      let made = follows-step p 0 0 (Running s) _ (acts-follow s (p.fetch s.frame.procedure s.frame.position)) in
+      let made =
+      follows-step p 0 0 (Running s) _
+      (subst (λ m. Follows p 0 0 m (step (aimed p aim) (Running s))) (sym (step-is p s))
+      (subst (Follows p 0 0 (acts p s (p.fetch s.frame.procedure s.frame.position))) (sym (step-is (aimed p aim) s))
+      (acts-follow s (p.fetch s.frame.procedure s.frame.position)))) in
       record {
         steps = made.steps;
         enough = omega (arith, made.enough);
@@ -109,7 +115,8 @@ module _ (p : MachineCode) (s : State) (operands : List Cell) (code : List Instr
   jumps-once : (position target : ℕ) (to : Machine) → jump_of (slice_get code position) ≡ Some target → Follows p 0 0 (at target) to → Follows p 0 0 (at position) to
   jumps-once position target to e h =
       let goes : step p (at position) ≡ at target =
-      ap (λ (o : Option Instruction). acts p (record s { frame = record s.frame { operands = operands; position = position } }) o)
+      step-is p (record s { frame = record s.frame { operands = operands; position = position } })
+      ∙ ap (λ (o : Option Instruction). acts p (record s { frame = record s.frame { operands = operands; position = position } }) o)
       (fetched position ∙ jump-is (slice_get code position) target e) in
       let free : count p (at position) ≡ 0 = ap (λ (o : Option Instruction). counted (jump_of o)) (fetched position) ∙ ap counted e in
       let made = follows-step p 0 0 (at position) to (subst (λ m. Follows p 0 0 m to) (sym goes) h) in

@@ -24,7 +24,8 @@ use Rattle.modules.specs.declared.declaration.Slot.{Slot}
 use Rattle.modules.specs.declared.declaration.Slot.TheVariants as slot
 use Rattle.modules.specs.Values.{has_kind, zero_of}
 use Rattle.modules.specs.Contents.{ProcedureContents}
-use Rattle.modules.specs.Machine.{Caller, Header, header_of, handler_for, popped, first_cells, first_slots}
+use Rattle.modules.specs.Machine.{Caller, Header, header_of, handler_for, first_cells, first_slots}
+use Rattle.modules.specs.Transitions.{popped}
 use Rattle.modules.specs.MachineParts.{slot_of, code_of, handlers_of, slots_of, kinds_of, first_slot}
 use Rattle.layout.specs.Runs.{graph_program}
 use Rattle.lowering.specs.Interface.{declared_slot, slot_contents, global_contents, scalar_global, channel_contents}

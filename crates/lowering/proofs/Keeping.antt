@@ -8,6 +8,7 @@ use Rattle.resolved.specs.Program.{Program}
 use Rattle.resolved.specs.SourceState as source
 use Rattle.resolved.specs.Meaning as meaning
 use Rattle.resolved.specs.WellFormed.{well_formed}
+use Rattle.modules.proofs.Tabled.{step-is}
 use Rattle.modules.specs.Contents.{ModuleContents}
 use Rattle.modules.specs.Machine as machine
 use Rattle.modules.specs.MachineParts as pieces
@@ -56,7 +57,7 @@ idle-by p m state sent later none e None jump =
 idle-by p m state sent later none e (Some target) jump =
     let on : machine.State = record state { frame = record state.frame { position = target } } in
     let goes : machine.step p (Running state) ≡ Running on =
-    ap (pieces.acts p state) (jump-is (p.fetch state.frame.procedure state.frame.position) target jump) in
+    step-is p state ∙ ap (pieces.acts p state) (jump-is (p.fetch state.frame.procedure state.frame.position) target jump) in
     let left : counts p m (machine.step p (Running state)) ≤ 0 = omega (arith, none) in
     let rest : Still p m (Running on) sent = later on sent (subst (λ x. counts p m x ≤ 0) goes left) e in
     record {

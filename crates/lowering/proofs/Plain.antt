@@ -28,8 +28,9 @@ use Rattle.modules.specs.declared.declaration.Slot.{Slot}
 use Rattle.modules.specs.declared.declaration.Slot.TheVariants as slot
 use Rattle.modules.specs.declared.instruction.Instruction.{Instruction}
 use Rattle.modules.specs.declared.instruction.Instruction.TheVariants as instruction
-use Rattle.modules.specs.Machine as machine
-use Rattle.modules.specs.Machine.{Machine, State, Header, clears, with_element, goes_on, sends, leaves_without, gives_back, raised, stuck}
+use Rattle.modules.specs.Transitions as transitions
+use Rattle.modules.specs.Machine.{State, with_element, goes_on}
+use Rattle.modules.specs.Transitions.{clears, sends, leaves_without, gives_back}
 use Rattle.modules.specs.MachineParts.{with_slot, takes, receives}
 use Rattle.common.specs.declared.exceptions.TheConstants.{BOUNDS, END}
 use Rattle.lowering.specs.Expressions.{store_of, store_element_of, value_size, value_code}
@@ -119,10 +120,10 @@ module _ (g : Setting) (loop : Loop) (h : ℕ → Option ℕ) (k : ℕ) (s : sou
       left : (left_of (slice_get g.program.channels channel) (s.inputs channel) (g.world channel) ≡ s.inputs channel) × (direction_in (slice_get g.program.channels channel) ≡ Some Input)
       left = input_rest g loop h k s channel is_input
 
-      taken : machine.act g.p (instruction.Receive channel) S ≡ takes g.p S channel (left_of (slice_get g.program.channels channel) (s.inputs channel) (g.world channel))
+      taken : transitions.act g.p (instruction.Receive channel) S ≡ takes g.p S channel (left_of (slice_get g.program.channels channel) (s.inputs channel) (g.world channel))
       taken = ap (receives g.p S channel) (g.channels_there channel ∙ left.1)
 
-      go : (numbers : List ℤ) → machine.act g.p (instruction.Receive channel) S ≡ takes g.p S channel numbers
+      go : (numbers : List ℤ) → transitions.act g.p (instruction.Receive channel) S ≡ takes g.p S channel numbers
           → Runs g loop h k (position g at [] s) (at + 2) (received numbers channel target s)
       go [] acts =
           does g (kept_code target ∷ []) (instruction.Receive channel) at [] s _ stands

@@ -1,13 +1,15 @@
 -- What a machine has sent stays sent: one step of any instruction adds to it at most.
-use Rattle.std.proofs.Common.{ℕ, zero, suc, Bool, true, false, List, [], ◌∷◌, length, nat_lt, ◌+◌, Option, Some, None, refl}
+use Rattle.std.proofs.Common.{ℕ, zero, suc, Bool, true, false, List, [], ◌∷◌, length, nat_lt, ◌+◌, Option, Some, None, refl, sym, subst}
 use Rattle.std.specs.Prelude.{if◌then◌else◌}
 use Rattle.labels.specs.Sent.{IsPrefix}
 use Rattle.labels.proofs.Prefixes.{prefix-itself, prefix-through}
+use Rattle.modules.proofs.Tabled.{step-is}
 use Rattle.modules.proofs.Alike.{act-alike}
 use Rattle.modules.specs.declared.instruction.Instruction.{Instruction}
 use Rattle.modules.specs.declared.declaration.Slot.{Slot}
 use Rattle.modules.specs.declared.value.Cell.{Cell}
-use Rattle.modules.specs.Machine.{Frame, Caller, State, Machine, Running, Ended, Stuck, sent_of, MachineCode, handled, unwound, raised, enters, act, step, exec}
+use Rattle.modules.specs.Machine.{Frame, Caller, State, Machine, Running, Ended, Stuck, sent_of, MachineCode, unwound, raised, step, exec}
+use Rattle.modules.specs.Transitions.{handled, enters, act}
 use Rattle.modules.specs.MachineParts.{leaves, leaves_value, acts}
 use Rattle.common.specs.declared.limits.TheConstants.{MAX_FRAMES}
 
@@ -73,7 +75,7 @@ acts-keeps p s None = same s
 acts-keeps p s (Some i) = act-keeps p i s
 
 pub step-keeps : (p : MachineCode) (machine : Machine) → IsPrefix (sent_of machine) (sent_of (step p machine))
-step-keeps p (Running s) = acts-keeps p s (p.fetch s.frame.procedure s.frame.position)
+step-keeps p (Running s) = subst (Kept s) (sym (step-is p s)) (acts-keeps p s (p.fetch s.frame.procedure s.frame.position))
 step-keeps p (Ended ending sent) = prefix-itself sent
 step-keeps p (Stuck sent) = prefix-itself sent
 

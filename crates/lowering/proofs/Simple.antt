@@ -26,7 +26,8 @@ use Rattle.modules.specs.declared.declaration.Slot.TheVariants as slot
 use Rattle.modules.specs.declared.instruction.Instruction.{Instruction}
 use Rattle.modules.specs.declared.instruction.Instruction.TheVariants as instruction
 use Rattle.modules.specs.Values.{zero_of, has_kind}
-use Rattle.modules.specs.Machine.{State, leaves_without, gives_back, raised, stuck}
+use Rattle.modules.specs.Machine.{State, raised, stuck}
+use Rattle.modules.specs.Transitions.{leaves_without, gives_back}
 use Rattle.modules.specs.MachineParts.{returns_nothing, returns_value, leaves_value}
 use Rattle.lowering.specs.Interface.{returned_kind}
 use Rattle.lowering.specs.Expressions.{store_of}

@@ -6,6 +6,7 @@ use Rattle.resolved.specs.declared.expression.Variable.{Variable}
 use Rattle.resolved.specs.declared.expression.Variable.TheVariants.{Global, Local}
 use Rattle.resolved.specs.SourceState as source
 use Rattle.resolved.specs.WellFormed.{variable_type}
+use Rattle.modules.proofs.Tabled.{step-is}
 use Rattle.modules.specs.declared.value.Cell.{Cell}
 use Rattle.common.specs.declared.base_type.BaseType.{BaseType}
 use Rattle.modules.specs.declared.value.Cell.TheVariants as cell
@@ -13,7 +14,8 @@ use Rattle.modules.specs.declared.declaration.Slot.{Slot}
 use Rattle.modules.specs.declared.declaration.Slot.TheVariants as slot
 use Rattle.modules.specs.declared.instruction.Instruction.{Instruction}
 use Rattle.modules.specs.Values.{has_kind}
-use Rattle.modules.specs.Machine.{Machine, State, act, step, goes_on, loads, stores, with_element, loads_element, stores_element}
+use Rattle.modules.specs.Machine.{Machine, State, step, goes_on, with_element}
+use Rattle.modules.specs.Transitions.{act, loads, stores, loads_element, stores_element}
 use Rattle.modules.specs.MachineParts.{acts, with_slot, with_global, changes}
 use Rattle.common.specs.declared.exceptions.TheConstants.{BOUNDS}
 use Rattle.lowering.specs.Expressions.{load_of, store_of, load_element_of, store_element_of}
@@ -26,7 +28,7 @@ use Rattle.lowering.proofs.States.{Setting, state_at, position, cell_of, cells_o
 pub stepped : (g : Setting) (more : List Instruction) (i : Instruction) (at : ℕ) (operands : List Cell) (s : source.SourceState)
     → Stands g.code (i ∷ more) at → step g.p (position g at operands s) ≡ act g.p i (state_at g at operands s)
 stepped g more i at operands s h =
-    ap (acts g.p (state_at g at operands s)) (g.fetched at ∙ stands-here g.code more i at h)
+    step-is g.p (state_at g at operands s) ∙ ap (acts g.p (state_at g at operands s)) (g.fetched at ∙ stands-here g.code more i at h)
 
 -- the machine at the next position
 pub onward : (g : Setting) (at : ℕ) (before operands : List Cell) (s : source.SourceState)

@@ -7,6 +7,7 @@ use Rattle.std.proofs.lemmas.Bool.{lt-ltb, le-ltb, ltb-true, ltb-false, ne_eqb, 
 use Rattle.std.proofs.lemmas.Bool.Decides.{nat_tests}
 use Rattle.std.proofs.lemmas.List.Elements.{All-head, All-tail, All-map, All-contains}
 use Rattle.std.proofs.lemmas.Option.{slice_get-get_or, same_Some}
+use Rattle.modules.proofs.Spelling.{bytes-length}
 use Rattle.modules.specs.Code.{width_of, code_length, instruction_at}
 use Rattle.modules.specs.Contents.{ProcedureContents, ModuleContents}
 use Rattle.modules.specs.Machine.{machine_code}
@@ -250,15 +251,21 @@ module _ (m : ModuleContents) (g : ProcedureContents) (s : Sound m g) where
       (right 0 x refl)
       ∙ instructions-right number (at + width_of (renamed_instruction (offset g.code) x)) code (λ k y e. right (suc k) y e)
 
-  end-right : (k : ℕ) (inside : Bool) → ltb k (length g.code) ≡ inside → k ≤ length g.code → is_end (laid_out_procedure g) (offset g.code k) ≡ true
-  end-right k true e most = ap (λ (b : Bool). b || eqb (offset g.code k) (code_length (laid_out_procedure g).code)) (start-at g.code k (ltb-true k (length g.code) e))
-  end-right k false e most =
+  ends-right : (k : ℕ) (inside : Bool) → ltb k (length g.code) ≡ inside → k ≤ length g.code
+      → (is_start (laid_out_procedure g) (offset g.code k) || eqb (offset g.code k) (code_length (laid_out_procedure g).code)) ≡ true
+  ends-right k true e most = ap (λ (b : Bool). b || eqb (offset g.code k) (code_length (laid_out_procedure g).code)) (start-at g.code k (ltb-true k (length g.code) e))
+  ends-right k false e most =
       let last : k ≡ length g.code = omega (arith, ltb-false k (length g.code) e, most) in
       let ends : offset g.code k ≡ code_length (laid_out_procedure g).code = ap (offset g.code) last ∙ (offset-end g.code ∙ sym (length-renamed (offset g.code) g.code)) in
       or_right (is_start (laid_out_procedure g) (offset g.code k)) (eqb (offset g.code k) (code_length (laid_out_procedure g).code)) (equal (offset g.code k) (code_length (laid_out_procedure g).code) ends)
     where
       equal : (a b : ℕ) → a ≡ b → eqb a b ≡ true
       equal a b h = grind (arith, nat_tests)
+
+  end-right : (k : ℕ) (inside : Bool) → ltb k (length g.code) ≡ inside → k ≤ length g.code → is_end (laid_out_procedure g) (offset g.code k) ≡ true
+  end-right k inside e most =
+      ap (λ n. is_start (laid_out_procedure g) (offset g.code k) || eqb (offset g.code k) n) (bytes-length (laid_out_procedure g).code)
+      ∙ ends-right k inside e most
 
   handler-right : (x : Handler) → IsHandlerIn (length g.code) x → Catches m (laid_out_procedure g) g.code x
       → handler_refusal m (laid_out_procedure g) (renamed_handler (offset g.code) x) ≡ None

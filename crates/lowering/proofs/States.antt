@@ -18,7 +18,8 @@ use Rattle.modules.specs.declared.value.Cell.TheVariants as cell
 use Rattle.modules.specs.declared.declaration.Slot.{Slot}
 use Rattle.modules.specs.declared.instruction.Instruction.{Instruction}
 use Rattle.modules.specs.Values.{has_kind}
-use Rattle.modules.specs.Machine.{Machine, Running, State, Frame, Caller, MachineCode, Header, handled, raised, unwound}
+use Rattle.modules.specs.Machine.{Machine, Running, State, Frame, Caller, MachineCode, Header, raised, unwound}
+use Rattle.modules.specs.Transitions.{handled}
 use Rattle.modules.specs.MachineParts.{slots_of, with_slot, with_global, leaves, leaves_value}
 use Rattle.lowering.specs.Interface.{declared_slot, returned_kind}
 

@@ -21,7 +21,8 @@ use Rattle.modules.specs.declared.value.Cell.TheVariants as cell
 use Rattle.modules.specs.declared.declaration.Slot.{Slot}
 use Rattle.modules.specs.declared.declaration.Slot.TheVariants as slot
 use Rattle.modules.specs.declared.instruction.Instruction.{Instruction}
-use Rattle.modules.specs.Machine.{Machine, act, loads, scalar_cell, element_at, loads_element, goes_on}
+use Rattle.modules.specs.Machine.{Machine, element_at, goes_on}
+use Rattle.modules.specs.Transitions.{act, loads, loads_element, scalar_cell}
 use Rattle.modules.specs.MachineParts.{found}
 use Rattle.common.specs.declared.exceptions.TheConstants.{BOUNDS}
 use Rattle.lowering.specs.Expressions.{load_of, load_element_of}

@@ -18,10 +18,6 @@ use Rattle.modules.specs.declared.version.Version.TheVariants.{One, Two}
 use Rattle.modules.specs.Contents.{ChannelContents, ModuleContents}
 use Rattle.modules.specs.Format.{pair_cmp}
 
--- the version of the module file for a program: the second exactly where the program uses an operator on bits
-abbrev pub module_version : Program → Version
-module_version program = if uses_bits program then Two else One
-
 -- the same principals, and the written pairs in ascending order, each once
 abbrev pub hierarchy_contents : PrincipalHierarchy → PrincipalHierarchy
 hierarchy_contents h = record { names = h.names; pairs = ascending_set pair_cmp h.pairs }
@@ -55,11 +51,15 @@ abbrev pub returned_kind : Option ResultEntry → Option BaseType
 returned_kind None = None
 returned_kind (Some entry) = Some entry.base
 
+-- the version of the module file for a program
+abbrev pub module_version : Program → Version
+module_version program = if uses_bits program then Two else One
+
 -- a graph or a module has the version of a program, the second exactly where the program uses an operator on bits; its principals with
 -- the same numbers, of whom the same act for each other; its channels with the same numbers, and the names of its declared exceptions
 -- with the same numbers
 pub record HasInterfaceOf (program : Program) (m : ModuleContents) : Type 0 where
-  pub version : m.version ≡ module_version program
+  pub version : m.version ≡ (if uses_bits program then Two else One)
   pub names : m.hierarchy.names ≡ program.hierarchy.names
   pub acts : (a b : ℕ) → ActsFor m.hierarchy.pairs a b ↔ ActsFor program.hierarchy.pairs a b
   pub channels : m.channels ≡ map channel_contents program.channels

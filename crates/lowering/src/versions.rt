@@ -1,6 +1,6 @@
 //! The version of a program's module.
 ghost use Rattle.lowering.specs.Interface.{module_version};
-ghost use Rattle.resolved.specs.BitUse.{block_uses_bits, expression_uses_bits, handlers_use_bits, statement_uses_bits, uses_bits};
+ghost use Rattle.resolved.specs.BitUse.{block_uses_bits, expression_uses_bits, handlers_use_bits, procedures_use_bits, statement_uses_bits};
 ghost use Rattle.resolved.specs.CoreOf.{program_of};
 ghost use Rattle.resolved.specs.TreeOf.{block_of, expression_of, handlers_of, statement_of};
 ghost use Rattle.std.specs.List.{list_any};
@@ -25,7 +25,7 @@ pub(crate) fn module_version(core: &Core) -> Version
 
 /// Whether a program uses an operator on bits somewhere.
 fn uses_bits(core: &Core) -> bool
-    ensures { result ≡ uses_bits (program_of core.now) }
+    ensures { result ≡ procedures_use_bits (program_of core.now).procedures }
 {
     for procedure in &core.procedures {
         if block_uses_bits(&procedure.body) {

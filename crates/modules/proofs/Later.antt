@@ -1,5 +1,6 @@
 -- A module that has a spelling has one as a file of the last version too.
-use Rattle.std.proofs.Common.{List, [], ◌∷◌, ◌++◌, refl, lit<}
+use Rattle.std.proofs.Common.{◌≡◌, ◌||◌, Bool, true, false, List, [], ◌∷◌, ◌++◌, refl, lit<}
+use Rattle.std.specs.Prelude.{nat_lt}
 use Rattle.std.specs.List.{AllByRecursion}
 use Rattle.modules.specs.Contents.{ProcedureContents, ModuleContents}
 use Rattle.modules.specs.ByteFormat.{Fits, FitEach}
@@ -9,11 +10,15 @@ use Rattle.modules.specs.Opcodes.{HasSpelling, entry_of}
 use Rattle.modules.specs.declared.instruction.Instruction.{Instruction}
 use Rattle.modules.specs.declared.version.Version.{Version}
 use Rattle.modules.specs.declared.version.Version.TheVariants.{Two}
-use Rattle.modules.proofs.Spelling.{in_latest}
+
+-- the last version has all
+early : (b : Bool) → (b || true) ≡ true
+early true = refl
+early false = refl
 
 later_code : (v : Version) (code : List Instruction) → AllByRecursion (HasSpelling v) code → AllByRecursion (HasSpelling Two) code
 later_code v [] h = tt
-later_code v (x ∷ code) h = ((in_latest (entry_of x).since, h.0.1), later_code v code h.1)
+later_code v (x ∷ code) h = ((early (nat_lt (entry_of x).byte 0x28), h.0.1), later_code v code h.1)
 
 later_procedure : (v : Version) (p : ProcedureContents) → Fits (procedure v) p → Fits (procedure Two) p
 unfolding procedure

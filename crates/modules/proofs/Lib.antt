@@ -5,3 +5,4 @@ pub mod Widths
 pub mod Executing
 pub mod Own
 pub mod Alike
+pub mod Tabled

@@ -1,6 +1,6 @@
 -- Each instruction that a version has and whose operand fits has a spelling there, which is as long as the instruction is wide.
 use Rattle.std.proofs.Common.{◌≡◌, ◌⊎◌, inl, inr, ℕ, ◌^◌, ◌<◌, ℤ, Bool, true, false, cond, eqb, List, [], ◌∷◌, ◌++◌, length, Option, None, Some, refl, sym, ap, subst, ◌∙◌, arith, length-append, lit<}
-use Rattle.std.specs.Prelude.{FitsSigned, IsTrue}
+use Rattle.std.specs.Prelude.{◌||◌, FitsSigned, IsTrue, nat_lt}
 use Rattle.std.specs.Int.{w32, cast_signed, cast_unsigned, to_be_bytes, from_be_bytes}
 use Rattle.std.specs.List.{find, AllByRecursion}
 use Rattle.std.proofs.lemmas.List.Elements.{All-nil, All-cons}
@@ -18,9 +18,11 @@ use Rattle.modules.specs.declared.instruction.Instruction.{Instruction}
 use Rattle.modules.specs.declared.instruction.Instruction.TheVariants.{Push, PushBoolean, Load, Store, LoadElement, StoreElement, Operate}
 use Rattle.modules.specs.Code.{width_of, code_length}
 use Rattle.modules.specs.ByteFormat.{IsCoded, spelled_instruction, spelled_code}
-use Rattle.modules.specs.Opcodes.{HasCodeOf, HasSpelling, OperandFits, code_bytes, exists_in, has_instruction, instruction_bytes, instruction_of, instructions, numbered, opcode_of, operand_bytes, operand_width, plain, entry_of, width_after, width_in, with_opcode}
+use Rattle.modules.specs.Opcodes.{HasCodeOf, HasSpelling, OperandFits, code_bytes, has_instruction, instruction_bytes, instruction_of, instructions, numbered, opcode_of, operand_bytes, operand_width, plain, entry_of, width_after, width_in, with_opcode}
+use Rattle.modules.specs.Versions.{exists_in, since_of}
 use Rattle.modules.specs.declared.opcode.Operand.{Operand}
 use Rattle.modules.specs.declared.opcode.Operand.TheVariants.{Absent, Boolean, Int, Number}
+use Rattle.modules.specs.contracts.version.VersionPartialEq.TheImpl.{eq-value as same_version}
 use Rattle.modules.specs.declared.version.Version.{Version}
 use Rattle.modules.specs.declared.version.Version.TheVariants.{One, Two}
 
@@ -122,9 +124,15 @@ is_spelled version x has fits = record {
 
 -- ---- versions
 
-pub in_latest : (since : Version) → IsTrue (exists_in since Two)
-in_latest One = refl
-in_latest Two = refl
+-- a version has what exists since it or an earlier one
+pub since_has : (version : Version) (x : Instruction) → exists_in (since_of x) version ≡ has_instruction version x
+since_has version x = by version (nat_lt (entry_of x).byte 0x28)
+  where
+    by : (version : Version) (early : Bool) → exists_in (cond early One Two) version ≡ (early || same_version.it version Two)
+    by One true = refl
+    by One false = refl
+    by Two true = refl
+    by Two false = refl
 
 some_if : (has : Bool) (width found : ℕ) → cond has (Some width) None ≡ Some found → IsTrue has
 some_if true width found e = refl

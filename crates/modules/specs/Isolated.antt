@@ -24,17 +24,12 @@ channel_label_under h m k = label_under m.hierarchy h (channel_label m k)
 abbrev pub module_view : PrincipalHierarchy → ModuleContents → ℕ → List Pair → List Pair
 module_view h m p sent = pairs_for h (channel_label_under h m) p sent
 
--- a channel is an input of a module that a principal may read under a hierarchy
-pub record ReadsInput (h : PrincipalHierarchy) (m : ModuleContents) (p k : ℕ) : Type 0 where
-  pub channel : ChannelContents
-  pub there : slice_get m.channels k ≡ Some channel
-  pub input : channel.direction ≡ Input
-  pub reads : IsTrue (may_read h p (label_under m.hierarchy h channel.label))
-
 -- two worlds, each a list of numbers for each channel, agree for a principal of a hierarchy: each input that it may read has the
 -- same numbers
 abbrev pub AgreeOnInputs : PrincipalHierarchy → ModuleContents → (p : ℕ) → (first second : ℕ → List ℤ) → Type 0
-AgreeOnInputs h m p first second = (k : ℕ) → ReadsInput h m p k → first k ≡ second k
+AgreeOnInputs h m p first second =
+    (k : ℕ) (channel : ChannelContents) → slice_get m.channels k ≡ Some channel → channel.direction ≡ Input
+    → IsTrue (may_read h p (label_under m.hierarchy h channel.label)) → first k ≡ second k
 
 -- a module that is isolated under a hierarchy: for every principal, all worlds that agree for it and any two numbers of steps, one
 -- of the lists that it sees is a prefix of the other

@@ -9,10 +9,12 @@ pub mod ByteFormat
 pub mod Values
 pub mod Operators
 pub mod Opcodes
+pub mod Versions
 pub mod Code
 pub mod Format
 pub mod FormatParts
 pub mod Machine
+pub mod Transitions
 pub mod MachineParts
 pub mod Isolated
 pub mod Targets

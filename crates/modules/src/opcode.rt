@@ -1,4 +1,5 @@
 ghost use Rattle.modules.specs.Opcodes.{examples, flagged, instruction_of, numbered, operand_width, operator_opcode, plain, entry_of, width_after, with_opcode};
+ghost use Rattle.modules.specs.Versions.{since_of};
 ghost use Rattle.std.specs.Prelude.{IfSome, Some, length, ◌<◌, ◌≡◌, ◌≤◌};
 
 use crate::instruction::{Instruction, MachineOperator, Storage};
@@ -77,7 +78,7 @@ fn numbered_entry(byte: u8, name: &'static str, number: u32) -> OpcodeEntry
 /// alone.
 #[inline(always)]
 pub fn entry_of(instruction: Instruction) -> OpcodeEntry
-    ensures since { result.since ≡ (entry_of instruction).since }
+    ensures since { result.since ≡ since_of instruction }
     ensures byte { result.byte ≡ (entry_of instruction).byte }
     ensures name { result.name.now ≡ (entry_of instruction).name }
     ensures operand { result.operand ≡ (entry_of instruction).operand }
@@ -118,9 +119,9 @@ pub fn entry_of(instruction: Instruction) -> OpcodeEntry
 }
 
 fn operator_entry(operator: MachineOperator) -> OpcodeEntry
-    ensures since { result.since ≡ (operator_opcode operator).0 }
-    ensures byte { result.byte ≡ (operator_opcode operator).1.0 }
-    ensures name { result.name.now ≡ (operator_opcode operator).1.1 }
+    ensures since { result.since ≡ since_of (Instruction.Operate operator) }
+    ensures byte { result.byte ≡ (operator_opcode operator).0 }
+    ensures name { result.name.now ≡ (operator_opcode operator).1 }
     ensures operand { result.operand ≡ Operand.Absent }
 {
     match operator {
@@ -263,6 +264,7 @@ fn example_of(opcode: u8) -> Option<Instruction>
 }
 
 /// How many bytes of operand follow an opcode in a file of the version, or none where that has no such opcode.
+#[tactic(auto, using(crate::proofs::Spelling::since_has))]
 pub fn width_after(version: Version, opcode: u8) -> Option<usize>
     ensures width { result ≡ width_after version opcode }
     ensures wide { IfSome result (λ width. 1 < width → 4 ≤ width) }

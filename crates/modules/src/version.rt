@@ -1,7 +1,7 @@
 //! The versions of the module file.
 
 ghost use Rattle.modules.specs.Format.{version_number};
-ghost use Rattle.modules.specs.Opcodes.{exists_in};
+ghost use Rattle.modules.specs.Versions.{exists_in};
 ghost use Rattle.std.specs.Prelude.{◌≡◌};
 
 /// A version of the module file. A file of a version has the instructions that exist since that version or an

@@ -1,12 +1,12 @@
 -- Expressions fit.
+use Prim.Native.String.{String}
 use Rattle.std.proofs.Common.{◌≡◌, ℕ, zero, suc, pred, ◌+◌, ◌≤◌, ◌<◌, List, [], ◌∷◌, sym, subst, inl, inr, sum_by, arith}
-use Rattle.std.specs.Prelude.{Option}
+use Rattle.std.specs.Prelude.{Option, None, Some, length, slice_get}
 use Rattle.std.specs.List.{All}
 use Rattle.syntax.specs.declared.tree.BinaryOperator.{BinaryOperator}
-use Rattle.syntax.specs.declared.line.Line.{Line}
 use Rattle.syntax.specs.Form.{Form, level, only}
-use Rattle.syntax.specs.Grammar.{optional, chains, lines, after_line, others_of, grouped, name, index, integer, primary, unary, expression, variable_tree, arguments, some}
-use Rattle.parser.specs.Parts.{chain, variable, parenthesised, signed, operand_of}
+use Rattle.syntax.specs.Grammar.{optional, chains, lines, others_by, others_of, grouped, name, index, integer, primary, unary, expression, variable_tree, some}
+use Rattle.parser.specs.Parts.{arguments, chain, variable, parenthesised, signed, operand_of}
 use Rattle.syntax.specs.Nesting.{IsNestedExpression}
 use Rattle.syntax.specs.Nodes.{expression_nodes}
 use Rattle.syntax.specs.Symbol.{Expression, Arguments}
@@ -68,18 +68,23 @@ module _ (fits : ℕ → Type 0) (word : List ℕ → Type 0) (number : ℕ → 
     abbrev Fitted : ExpressionTree → ℕ → Type 0
     Fitted tree k = FitExpression fits word number room tree k
 
-    pub others_fit : (line : Line) (others : List (BinaryOperator × ExpressionTree)) (k : ℕ) → Having (others_of line) others k → FitOthers fits word number room others k
-    others_fit line others k (inl h) =
+    others_fit_by : (line : ℕ) (found : Option (List (String × BinaryOperator))) (others : List (BinaryOperator × ExpressionTree)) (k : ℕ) → Having (others_by line found) others k → FitOthers fits word number room others k
+    others_fit_by line None others k h =
+        subst (λ list. FitOthers fits word number room list k) (sym h.0) (record { written = tt; few = omega arith; nested = tt })
+    others_fit_by line (Some operators) others k (inl h) =
         let inner = h.1.3 in
         subst (λ list. FitOthers fits word number room list k) (sym h.2) (record {
           written = inner.written;
           few = omega (arith, inner.few, h.1.4);
           nested = (h.1.1, inner.nested.0, inner.nested.1);
         })
-    others_fit line others k (inr h) =
+    others_fit_by line (Some operators) others k (inr h) =
         subst (λ list. FitOthers fits word number room list k) (sym h.0) (record { written = tt; few = omega arith; nested = tt })
 
-    chain_fits : (line : Line) (F : Form ExpressionTree) → ((tree : ExpressionTree) (k : ℕ) → Having F tree k → Fitted tree k) → (tree : ExpressionTree) (k : ℕ) → Having (chain line F) tree k → Fitted tree k
+    pub others_fit : (line : ℕ) (others : List (BinaryOperator × ExpressionTree)) (k : ℕ) → Having (others_of line) others k → FitOthers fits word number room others k
+    others_fit line others k h = others_fit_by line (slice_get lines line) others k h
+
+    chain_fits : (line : ℕ) (F : Form ExpressionTree) → ((tree : ExpressionTree) (k : ℕ) → Having F tree k → Fitted tree k) → (tree : ExpressionTree) (k : ℕ) → Having (chain line F) tree k → Fitted tree k
     chain_fits line F f tree k h =
         let both = h.1 in
         let left = f h.0.0 both.0 both.2 in
@@ -160,17 +165,17 @@ module _ (fits : ℕ → Type 0) (word : List ℕ → Type 0) (number : ℕ → 
     unfolding unary signed
     unary_fits tree k h = elim h [ inl one ↦ signed_fits tree k one | inr one ↦ primary_fits tree k one ]
 
-    chains_fit : (list : List Line) (tree : ExpressionTree) (k : ℕ) → Having (chains list unary) tree k → Fitted tree k
-    chains_fit [] tree k h = unary_fits tree k h
-    chains_fit (line ∷ tighter) tree k h = chain_fits line (chains tighter unary) (chains_fit tighter) tree k h
+    chains_fit : (count : ℕ) (tree : ExpressionTree) (k : ℕ) → Having (chains count unary) tree k → Fitted tree k
+    chains_fit zero tree k h = unary_fits tree k h
+    chains_fit (suc line) tree k h = chain_fits line (chains line unary) (chains_fit line) tree k h
 
     pub expression_fits : (tree : ExpressionTree) (k : ℕ) → Having expression tree k → Fitted tree k
     unfolding expression
-    expression_fits tree k h = chains_fit lines tree k h
+    expression_fits tree k h = chains_fit (length lines) tree k h
 
-    pub operand_fits : (line : Line) (tree : ExpressionTree) (k : ℕ) → Having (operand_of line) tree k → Fitted tree k
+    pub operand_fits : (line : ℕ) (tree : ExpressionTree) (k : ℕ) → Having (operand_of line) tree k → Fitted tree k
     unfolding operand_of
-    operand_fits line tree k h = chains_fit (after_line line lines) tree k h
+    operand_fits line tree k h = chains_fit line tree k h
 
     pub unary_symbol_fits : (tree : ExpressionTree) (k : ℕ) → Having unary tree k → Fitted tree k
     unary_symbol_fits tree k h = unary_fits tree k h

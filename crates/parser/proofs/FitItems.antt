@@ -5,8 +5,8 @@ use Rattle.std.specs.List.{All}
 use Rattle.std.proofs.lemmas.List.Elements.{All-nil}
 use Rattle.common.specs.declared.direction.Direction.{Direction}
 use Rattle.syntax.specs.Form.{Form, many, ◌·◌}
-use Rattle.syntax.specs.Grammar.{at, key, ◌◂◌, base, name, label, direction, channel, exception, constant, global_value, global, written_result, parameter, thrown, throws, procedure, item, program, optional, some, ◌▸◌}
-use Rattle.parser.specs.Parts.{negative_constant, valued, some_throws, thrown_list}
+use Rattle.syntax.specs.Grammar.{at, ◌◂◌, base, name, label, direction, constant, written_result, parameter, throws, item, program, optional, some, ◌▸◌}
+use Rattle.parser.specs.Parts.{procedure, global, exception, channel, global_value, negative_constant, valued, some_throws, thrown, thrown_list}
 use Rattle.syntax.specs.Nesting.{IsNestedItem, IsNested}
 use Rattle.syntax.specs.Nodes.{optional_label_nodes, written_result_nodes, parameter_nodes, thrown_nodes, item_nodes, program_nodes}
 use Rattle.syntax.specs.Tree.{LabelTree, ConstantTree, GlobalValueTree, WrittenResultTree, ParameterTree, ThrownTree, ItemTree, ProgramTree}
@@ -89,7 +89,7 @@ module _ (fits : ℕ → Type 0) (word : List ℕ → Type 0) (number : ℕ → 
       subst (λ t. FitGlobalValue t k) (sym h.2) (one.written, omega (arith, one.few))
 
   global_fits : (tree : ItemTree) (k : ℕ) → Having global tree k → FitItem tree k
-  unfolding global
+  unfolding global global_value
   global_fits tree k h =
       let line = from_before fits word number room (at "global" · base · label · name · global_value) ";" h.0 k h.1 in
       let a = line.1 in
@@ -151,14 +151,13 @@ module _ (fits : ℕ → Type 0) (word : List ℕ → Type 0) (number : ℕ → 
   thrown_fits : (tree : ThrownTree) (k : ℕ) → Having thrown tree k → Fit (IsWrittenThrown fits word number tree) (thrown_nodes tree) (Nothing tree) k
   unfolding thrown
   thrown_fits tree k h =
-      let both = h.1 in
-      let named = name_fits fits word number room h.0.0 both.0 both.2 in
-      let labelled = label_fits fits word number room h.0.1 both.1 both.3 in
-      subst (λ t. Fit (IsWrittenThrown fits word number t) (thrown_nodes t) (Nothing t) k) (sym h.2) (record {
+      let named = name_fits fits word number room tree.0 h.0 h.2 in
+      let labelled = label_fits fits word number room tree.1 h.1 h.3 in
+      record {
         written = (named.written, labelled.written);
-        few = omega (arith, named.few, labelled.few, both.4);
+        few = omega (arith, named.few, labelled.few, h.4);
         nested = tt;
-      })
+      }
 
   abbrev FitThrows : List ThrownTree → ℕ → Type 0
   FitThrows trees k = Fit (All (IsWrittenThrown fits word number) trees) (sum_by thrown_nodes trees) (All Nothing trees) k
@@ -171,13 +170,13 @@ module _ (fits : ℕ → Type 0) (word : List ℕ → Type 0) (number : ℕ → 
   some_throws_fit : (trees : List ThrownTree) (k : ℕ) → Having some_throws trees k → FitThrows trees k
   unfolding some_throws
   some_throws_fit trees k h =
-      let close = from_before fits word number room (key "throws" ◂ "(" · thrown_list) ")" h.0 k h.1 in
+      let close = from_before fits word number room (at "throws" ◂ "(" · thrown_list) ")" h.0 k h.1 in
       let both = close.1 in
       let list = thrown_list_fits h.0.1 both.1 both.3 in
       subst (λ list. FitThrows list k) (sym h.2) (record { written = list.written; few = omega (arith, list.few, both.4, close.2); nested = list.nested })
 
   throws_fit : (trees : List ThrownTree) (k : ℕ) → Having throws trees k → FitThrows trees k
-  unfolding throws some_throws thrown_list
+  unfolding throws some_throws thrown_list thrown
   throws_fit trees k (inl h) = some_throws_fit trees k h
   throws_fit trees k (inr h) =
       subst (λ list. FitThrows list k) (sym h.0) (record { written = All-nil (IsWrittenThrown fits word number); few = omega arith; nested = All-nil Nothing })
@@ -216,7 +215,7 @@ module _ (fits : ℕ → Type 0) (word : List ℕ → Type 0) (number : ℕ → 
       })
 
   item_fits : (tree : ItemTree) (k : ℕ) → Having item tree k → FitItem tree k
-  unfolding item
+  unfolding item channel exception global global_value procedure
   item_fits tree k h = elim h [
     | inl one ↦ channel_fits tree k one
     | inr h ↦ elim h [

@@ -108,11 +108,7 @@ module _ (fits : ℕ → Type 0) (word : List ℕ → Type 0) (number : ℕ → 
   pub size_fits : (tree : SizeTree) (k : ℕ) → Having size tree k → Fit (IsWrittenSize fits word number tree) 3 (Nothing tree) k
   unfolding size
   size_fits tree k h =
-      let front = from_before fits word number room ("[" ▸ integer) "]" h.0 k h.1 in
-      let inner = from_after fits word number room "[" integer h.0 front.0 front.1 in
-      let here = integer_fits h.0 inner.0 inner.1 in
-      subst (λ t. Fit (IsWrittenSize fits word number t) 3 (Nothing t) k) (sym h.2) (record {
-        written = (here.0, here.1);
-        few = omega (arith, here.2, inner.2, front.2);
-        nested = tt;
-      })
+      let front = from_before fits word number room ("[" ▸ integer) "]" tree k h in
+      let inner = from_after fits word number room "[" integer tree front.0 front.1 in
+      let here = integer_fits tree inner.0 inner.1 in
+      record { written = (here.0, here.1); few = omega (arith, here.2, inner.2, front.2); nested = tt }

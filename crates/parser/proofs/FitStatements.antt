@@ -4,7 +4,7 @@ use Rattle.std.proofs.Common.{◌≡◌, ℕ, ◌+◌, ◌<◌, ◌≤◌, List,
 use Rattle.std.specs.Prelude.{Option, None, Some}
 use Rattle.syntax.specs.Form.{Form, level, ◌·◌, ◌or◌, only, ◌gives◌}
 use Rattle.syntax.specs.Grammar.{at, ◌▸◌, ◌◂◌, base, name, index, expression, call, right, size, block, condition, catch, statement, production, optional, label}
-use Rattle.parser.specs.Parts.{operand_of, declare, declare_array, assign, assign_element, call_statement, catches, receive, send, conditional, while_statement, break_statement, continue_statement, throw_statement, return_statement, attempt, CatchTree}
+use Rattle.parser.specs.Parts.{arguments, operand_of, declare, declare_array, assign, assign_element, call_statement, catches, receive, send, conditional, while_statement, break_statement, continue_statement, throw_statement, return_statement, attempt, CatchTree}
 use Rattle.syntax.specs.Nesting.{IsNestedExpression, IsNestedOptionalExpression, IsNestedCall, IsNestedRight, IsNestedStatement, IsNestedBlock, AreNestedCatches}
 use Rattle.syntax.specs.Nodes.{expression_nodes, optional_expression_nodes, call_nodes, right_nodes, statement_nodes, block_nodes, catches_nodes}
 use Rattle.syntax.specs.Symbol.{Symbol, Expression, Unary, Operands, Arguments, Statements, tree_of}
@@ -36,16 +36,15 @@ module _ (fits : ℕ → Type 0) (word : List ℕ → Type 0) (number : ℕ → 
   FitStatement tree k = Fit (IsWrittenStatement fits word number tree) (statement_nodes tree) (IsNestedStatement room tree) k
 
   call_fits : (tree : CallTree) (k : ℕ) → Having call tree k → FitCall tree k
-  unfolding call
+  unfolding call arguments
   call_fits tree k h =
-      let both = h.1 in
-      let named = name_fits fits word number room h.0.0 both.0 both.2 in
-      let list = arguments_fit fits word number room h.0.1 both.1 both.3 in
-      subst (λ t. FitCall t k) (sym h.2) (record {
+      let named = name_fits fits word number room tree.0 h.0 h.2 in
+      let list = arguments_fit fits word number room tree.1 h.1 h.3 in
+      record {
         written = (named.written, list.written);
-        few = omega (arith, list.few, named.few, both.4);
+        few = omega (arith, list.few, named.few, h.4);
         nested = list.nested;
-      })
+      }
 
   -- a keyword and a name
   keyed : (text : String) (pair : ℕ × NameTree) (k : ℕ) → Having (at text · name) pair k → fits pair.0 × IsWrittenName fits word number pair.1 × (2 ≤ k)

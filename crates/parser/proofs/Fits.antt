@@ -10,7 +10,7 @@ use Rattle.std.proofs.lemmas.List.Sums.{sum_by-cons}
 use Rattle.lexer.specs.Terminal.{Terminal}
 use Rattle.syntax.specs.declared.tree.BinaryOperator.{BinaryOperator}
 use Rattle.syntax.specs.Form.{Form}
-use Rattle.syntax.specs.Grammar.{key, at, ◌▸◌, ◌◂◌, separated, some, value_of}
+use Rattle.syntax.specs.Grammar.{at, ◌▸◌, ◌◂◌, separated, some, value_of}
 use Rattle.syntax.specs.Nesting.{IsNestedExpression, AreNestedStatements}
 use Rattle.syntax.specs.Nodes.{expression_nodes, statements_nodes}
 use Rattle.syntax.specs.Symbol.{Expression, Unary, Operands, Arguments, Statements}
@@ -70,21 +70,18 @@ module _ (fits : ℕ → Type 0) (word : List ℕ → Type 0) (number : ℕ → 
   Has room F tree k = Holds (Fitting fits word number) Fits room F tree k
 
   module _ (room : ℕ) where
-    pub from_key : (text : String) (token : Terminal) (k : ℕ) → Has room (key text) token k → Fitting fits word number token × (k ≡ 1)
-    from_key text token k h = (subst (Fitting fits word number) (sym h.2) h.1.0, h.1.2)
-
     pub from_at : (text : String) (place k : ℕ) → Has room (at text) place k → fits place × (k ≡ 1)
     from_at text place k h = (subst fits (sym h.2) h.1.0.place, h.1.2)
 
     pub from_after : {A : Type 0} (text : String) (F : Form A) (tree : A) (k : ℕ) → Has room (text ▸ F) tree k → (j : ℕ) × Has room F tree j × (k ≡ 1 + j)
     from_after text F tree k h =
         let both = h.1 in
-        (both.1, subst (λ t. Has room F t both.1) (sym h.2) both.3, omega (arith, both.4, (from_key text h.0.0 both.0 both.2).1))
+        (both.1, subst (λ t. Has room F t both.1) (sym h.2) both.3, omega (arith, both.4, (from_at text h.0.0 both.0 both.2).1))
 
     pub from_before : {A : Type 0} (F : Form A) (text : String) (tree : A) (k : ℕ) → Has room (F ◂ text) tree k → (i : ℕ) × Has room F tree i × (k ≡ i + 1)
     from_before F text tree k h =
         let both = h.1 in
-        (both.0, subst (λ t. Has room F t both.0) (sym h.2) both.2, omega (arith, both.4, (from_key text h.0.1 both.1 both.3).1))
+        (both.0, subst (λ t. Has room F t both.0) (sym h.2) both.2, omega (arith, both.4, (from_at text h.0.1 both.1 both.3).1))
 
     -- lists, where each tree of a form fits
     module _ {A : Type 0} (F : Form A) (W : A → Type 0) (N : A → ℕ) (D : A → Type 0) (f : (tree : A) (k : ℕ) → Has room F tree k → Fit (W tree) (N tree) (D tree) k) where

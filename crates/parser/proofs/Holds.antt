@@ -5,7 +5,7 @@ use Rattle.std.specs.Prelude.{Option, Some}
 use Rattle.std.specs.List.{All}
 use Rattle.std.proofs.lemmas.List.Elements.{All-head, All-tail}
 use Rattle.lexer.specs.Terminal.{Terminal}
-use Rattle.syntax.specs.Form.{Form, give, one_of, level, ◌·◌, ◌or◌, many, ◌gives◌, Phrase, Token, Many, none, more, means}
+use Rattle.syntax.specs.Form.{Form, give, one_of, level, ◌·◌, ◌or◌, many, ◌gives◌, Phrase, Token, Many, means}
 use Rattle.syntax.specs.Symbol.{Symbol, tree_of}
 use Rattle.syntax.specs.Grammar.{production, within, Spelled}
 use Rattle.parser.proofs.Derivations.{Inside}
@@ -43,14 +43,14 @@ opens room k (inr h) = absurd (omega (arith, h))
 module _ (T : Terminal → Type 0) (inside : Held) where
   token_taken : {A : Type 0} (meaning : List ℕ → Option A) (tokens : List Terminal) (found : Terminal × A) (rest : List Terminal) → Token meaning tokens found rest → All T tokens → T found.0 × All T rest × (length tokens ≡ 1 + length rest)
   token_taken meaning tokens found rest h all =
-      let here = subst (All T) h.stands all in
-      (All-head T found.0 rest here, All-tail T found.0 rest here, omega (arith, ap length h.stands))
+      let here = subst (All T) h.0 all in
+      (All-head T found.0 rest here, All-tail T found.0 rest here, omega (arith, ap length h.0))
 
-  many_taken : {A : Type 0} {P : Phrase A} (Q : A → ℕ → Type 0) → ((tokens : List Terminal) (tree : A) (rest : List Terminal) → P 0 tokens tree rest → All T tokens → Taken T (Q tree) tokens rest) → (tokens : List Terminal) (trees : List A) (rest : List Terminal) → Many P 0 tokens trees rest → All T tokens → Taken T (Each Q trees) tokens rest
-  many_taken Q f tokens trees rest (none list) all = record { count = 0; holds = refl; length_is = omega arith; rest_all = all }
-  many_taken Q f tokens trees rest (more list between left tree others d ds) all =
-      let one = f list tree between d all in
-      let two = many_taken Q f between others left ds one.rest_all in
+  many_taken : {A : Type 0} (P : Phrase A) (Q : A → ℕ → Type 0) → ((tokens : List Terminal) (tree : A) (rest : List Terminal) → P 0 tokens tree rest → All T tokens → Taken T (Q tree) tokens rest) → (tokens : List Terminal) (trees : List A) (rest : List Terminal) → Many P 0 tokens trees rest → All T tokens → Taken T (Each Q trees) tokens rest
+  many_taken P Q f tokens [] rest h all = record { count = 0; holds = refl; length_is = omega (arith, ap length h); rest_all = subst (All T) (sym h) all }
+  many_taken P Q f tokens (tree ∷ trees) rest h all =
+      let one = f tokens tree h.0 h.1 all in
+      let two = many_taken P Q f h.0 trees rest h.2 one.rest_all in
       record {
         count = one.count + two.count;
         holds = (one.count, two.count, one.holds, two.holds, refl);
@@ -63,19 +63,19 @@ module _ (T : Terminal → Type 0) (inside : Held) where
       record { count = 0; holds = (h.0, refl); length_is = omega (arith, ap length h.1); rest_all = subst (All T) (sym h.1) all }
   taken_by i f room (one_of meaning) tokens tree rest h all =
       let here = token_taken meaning tokens tree rest h all in
-      record { count = 1; holds = (here.0, h.means, refl); length_is = here.2; rest_all = here.1 }
+      record { count = 1; holds = (here.0, h.1, refl); length_is = here.2; rest_all = here.1 }
   taken_by i f room (level meaning symbol) tokens tree rest h all =
-      let here = token_taken meaning tokens (tree.0, tree.1) h.between h.opener all in
-      let inner = f symbol (pred room) h.between tree.2 rest h.inside here.1 in
+      let here = token_taken meaning tokens (tree.0, tree.1) h.0 h.1 all in
+      let inner = f symbol (pred room) h.0 tree.2 rest h.3 here.1 in
       record {
         count = 1 + inner.count;
-        holds = (inner.count, opens room (length h.between) h.may, here.0, inner.holds, refl);
+        holds = (inner.count, opens room (length h.0) h.2, here.0, inner.holds, refl);
         length_is = omega (arith, here.2, inner.length_is);
         rest_all = inner.rest_all;
       }
   taken_by i f room (F · G) tokens tree rest h all =
-      let one = taken_by i f room F tokens tree.0 h.between h.first all in
-      let two = taken_by i f room G h.between tree.1 rest h.second one.rest_all in
+      let one = taken_by i f room F tokens tree.0 h.0 h.1 all in
+      let two = taken_by i f room G h.0 tree.1 rest h.2 one.rest_all in
       record {
         count = one.count + two.count;
         holds = (one.count, two.count, one.holds, two.holds, refl);
@@ -87,10 +87,10 @@ module _ (T : Terminal → Type 0) (inside : Held) where
     | inr other ↦ let t = taken_by i f room G tokens tree rest other all in record { count = t.count; holds = inr t.holds; length_is = t.length_is; rest_all = t.rest_all }
   ]
   taken_by i f room (many F) tokens tree rest h all =
-      many_taken (Holds T inside room F) (λ tokens tree rest. taken_by i f room F tokens tree rest) tokens tree rest h all
+      many_taken (means i room F) (Holds T inside room F) (λ tokens tree rest. taken_by i f room F tokens tree rest) tokens tree rest h all
   taken_by i f room (F gives g) tokens tree rest h all =
-      let t = taken_by i f room F tokens h.value rest h.spelled all in
-      record { count = t.count; holds = (h.value, t.holds, h.tree_is); length_is = t.length_is; rest_all = t.rest_all }
+      let t = taken_by i f room F tokens h.0 rest h.1 all in
+      record { count = t.count; holds = (h.0, t.holds, h.2); length_is = t.length_is; rest_all = t.rest_all }
 
   -- where what holds of each symbol's form holds of the symbol, it holds of every tree
   module _ (step : (symbol : Symbol) (room : ℕ) (tree : tree_of symbol) (k : ℕ) → Holds T inside room (production symbol) tree k → inside symbol room tree k) where

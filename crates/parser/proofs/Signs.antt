@@ -1,8 +1,8 @@
 -- The grammar leaves nothing out, and its tables give what the code does.
 use Rattle.lexer.specs.TokenKind.{TokenKind, word_of}
 use Rattle.lexer.specs.KindOf.{kind_of}
-use Rattle.std.proofs.Common.{◌≡◌, ℕ, List, [], ◌∷◌, Bool, true, false, refl, ap, ◌∙◌, arith}
-use Rattle.std.specs.Prelude.{Option, Some, Contains}
+use Rattle.std.proofs.Common.{◌≡◌, ℕ, List, [], ◌∷◌, Bool, true, false, refl, ap, ◌∙◌}
+use Rattle.std.specs.Prelude.{Option, Some, slice_index_or}
 use Rattle.lexer.specs.declared.token.Kind.{Kind}
 use Rattle.lexer.specs.declared.token.Kind.TheVariants as kinds
 use Rattle.lexer.specs.Terminal.{Terminal}
@@ -23,14 +23,14 @@ use Rattle.common.specs.declared.operator.Order.TheVariants.{LessThan, AtMost, G
 use Rattle.common.specs.declared.operator.Sameness.TheVariants.{Same, Different}
 use Rattle.common.specs.declared.operator.Connective.TheVariants.{And, Or}
 use Rattle.syntax.specs.Form.{one_of, ◌gives◌, table}
-use Rattle.syntax.specs.Grammar.{base, direction, truth, signs, operators_of, lines}
+use Rattle.syntax.specs.Grammar.{base, direction, truth, signs, lines}
 use Rattle.syntax.specs.Laws.{EachIsThere, SpellsAlone}
 use Rattle.parser.specs.Parts.{operator_of}
-use Rattle.parser.specs.Reading.{operator_by, kind_at, word_at}
+use Rattle.parser.specs.Reading.{operator_by, line_number, kind_at, word_at}
 use Rattle.parser.proofs.AllKinds.{word_coded}
 
 -- the operator of a line by its sign, as the code finds it
-operator_is : (line : Line) (kind : Kind) → operator_of line (word_of (kind_of kind)) ≡ operator_by line kind
+operator_is : (line : Line) (kind : Kind) → operator_of (line_number line) (word_of (kind_of kind)) ≡ operator_by line kind
 operator_is the_lines.Product kinds.End = refl
 operator_is the_lines.Product _ = refl
 operator_is the_lines.Sum kinds.End = refl
@@ -52,41 +52,29 @@ operator_is (the_lines.Connected And) _ = refl
 operator_is (the_lines.Connected Or) kinds.End = refl
 operator_is (the_lines.Connected Or) _ = refl
 
-pub operator_meant : (line : Line) (tokens : List Terminal) → operator_of line (word_at tokens) ≡ operator_by line (kind_at tokens)
-operator_meant line tokens = ap (operator_of line) (word_coded tokens) ∙ operator_is line (kind_at tokens)
+pub operator_meant : (line : Line) (tokens : List Terminal) → operator_of (line_number line) (word_at tokens) ≡ operator_by line (kind_at tokens)
+operator_meant line tokens = ap (operator_of (line_number line)) (word_coded tokens) ∙ operator_is line (kind_at tokens)
 
-line_there : (line : Line) → Contains lines line
-line_there the_lines.Product = (9, omega arith, refl)
-line_there the_lines.Sum = (8, omega arith, refl)
-line_there the_lines.Shift = (7, omega arith, refl)
-line_there the_lines.Relation = (6, omega arith, refl)
-line_there the_lines.Equality = (5, omega arith, refl)
-line_there the_lines.BitAnd = (4, omega arith, refl)
-line_there the_lines.BitXor = (3, omega arith, refl)
-line_there the_lines.BitOr = (2, omega arith, refl)
-line_there (the_lines.Connected And) = (1, omega arith, refl)
-line_there (the_lines.Connected Or) = (0, omega arith, refl)
-
-binary_there : (operator : BinaryOperator) → (line : Line) × (kind : TokenKind) × (table (operators_of line) (word_of kind) ≡ Some operator)
-binary_there (Compute Multiply) = (the_lines.Product, kind_of kinds.Star, refl)
-binary_there (Compute Divide) = (the_lines.Product, kind_of kinds.Slash, refl)
-binary_there (Compute Remainder) = (the_lines.Product, kind_of kinds.Percent, refl)
-binary_there (Compute Add) = (the_lines.Sum, kind_of kinds.Plus, refl)
-binary_there (Compute Subtract) = (the_lines.Sum, kind_of kinds.Minus, refl)
-binary_there (Compute (Bits bits.ShiftLeft)) = (the_lines.Shift, kind_of kinds.ShiftLeft, refl)
-binary_there (Compute (Bits bits.ShiftRight)) = (the_lines.Shift, kind_of kinds.ShiftRight, refl)
-binary_there (Compute (Bits bits.ShiftRightUnsigned)) = (the_lines.Shift, kind_of kinds.ShiftRightUnsigned, refl)
-binary_there (Compare (Ordered LessThan)) = (the_lines.Relation, kind_of kinds.LessThan, refl)
-binary_there (Compare (Ordered AtMost)) = (the_lines.Relation, kind_of kinds.AtMost, refl)
-binary_there (Compare (Ordered GreaterThan)) = (the_lines.Relation, kind_of kinds.GreaterThan, refl)
-binary_there (Compare (Ordered AtLeast)) = (the_lines.Relation, kind_of kinds.AtLeast, refl)
-binary_there (Compare (Matched Same)) = (the_lines.Equality, kind_of kinds.EqualTo, refl)
-binary_there (Compare (Matched Different)) = (the_lines.Equality, kind_of kinds.NotEqualTo, refl)
-binary_there (Compute (Bits bits.BitAnd)) = (the_lines.BitAnd, kind_of kinds.BitAnd, refl)
-binary_there (Compute (Bits bits.BitXor)) = (the_lines.BitXor, kind_of kinds.BitXor, refl)
-binary_there (Compute (Bits bits.BitOr)) = (the_lines.BitOr, kind_of kinds.BitOr, refl)
-binary_there (Connect And) = ((the_lines.Connected And), kind_of kinds.And, refl)
-binary_there (Connect Or) = ((the_lines.Connected Or), kind_of kinds.Or, refl)
+binary_there : (operator : BinaryOperator) → (line : ℕ) × (kind : TokenKind) × (table (slice_index_or lines line []) (word_of kind) ≡ Some operator)
+binary_there (Compute Multiply) = (0, kind_of kinds.Star, refl)
+binary_there (Compute Divide) = (0, kind_of kinds.Slash, refl)
+binary_there (Compute Remainder) = (0, kind_of kinds.Percent, refl)
+binary_there (Compute Add) = (1, kind_of kinds.Plus, refl)
+binary_there (Compute Subtract) = (1, kind_of kinds.Minus, refl)
+binary_there (Compute (Bits bits.ShiftLeft)) = (2, kind_of kinds.ShiftLeft, refl)
+binary_there (Compute (Bits bits.ShiftRight)) = (2, kind_of kinds.ShiftRight, refl)
+binary_there (Compute (Bits bits.ShiftRightUnsigned)) = (2, kind_of kinds.ShiftRightUnsigned, refl)
+binary_there (Compare (Ordered LessThan)) = (3, kind_of kinds.LessThan, refl)
+binary_there (Compare (Ordered AtMost)) = (3, kind_of kinds.AtMost, refl)
+binary_there (Compare (Ordered GreaterThan)) = (3, kind_of kinds.GreaterThan, refl)
+binary_there (Compare (Ordered AtLeast)) = (3, kind_of kinds.AtLeast, refl)
+binary_there (Compare (Matched Same)) = (4, kind_of kinds.EqualTo, refl)
+binary_there (Compare (Matched Different)) = (4, kind_of kinds.NotEqualTo, refl)
+binary_there (Compute (Bits bits.BitAnd)) = (5, kind_of kinds.BitAnd, refl)
+binary_there (Compute (Bits bits.BitXor)) = (6, kind_of kinds.BitXor, refl)
+binary_there (Compute (Bits bits.BitOr)) = (7, kind_of kinds.BitOr, refl)
+binary_there (Connect And) = (8, kind_of kinds.And, refl)
+binary_there (Connect Or) = (9, kind_of kinds.Or, refl)
 
 unary_there : (operator : Prefix) → (kind : TokenKind) × (table signs (word_of kind) ≡ Some operator)
 unary_there Negate = (kind_of kinds.Minus, refl)
@@ -99,7 +87,7 @@ token_of kind = record { kind = kind_of kind; text = []; start = 0; end = 0 }
 -- it spells what its kind means
 alone : {A : Type 0} (meaning : List ℕ → Option A) (kind : Kind) (tree : A) → meaning (word_of (kind_of kind)) ≡ Some tree → SpellsAlone (one_of meaning gives λ (word, tree). (word.start, tree)) (token_of kind) tree
 alone meaning kind tree means =
-    (0, record { value = (token_of kind, tree); spelled = record { stands = refl; means = means }; tree_is = refl })
+    (0, ((token_of kind, tree), (refl, means), refl))
 
 base_there : (tree : BaseType) → (token : Terminal) × SpellsAlone base token tree
 unfolding base
@@ -118,7 +106,6 @@ direction_there directions.Output = (token_of kinds.Output, alone (table (("inpu
 
 pub each_there : EachIsThere
 each_there = record {
-  line = line_there;
   binary = binary_there;
   unary = unary_there;
   base = base_there;

@@ -4,8 +4,8 @@
 use Rattle.std.specs.Prelude.{ℕ, List, Option}
 use Rattle.common.specs.declared.base_type.BaseType.{BaseType}
 use Rattle.syntax.specs.Form.{Form, ◌·◌, ◌or◌, ◌gives◌}
-use Rattle.syntax.specs.Grammar.{◌▸◌, ◌◂◌, base, label, name, size, index, expression, arguments, optional, block}
-use Rattle.parser.specs.Parts.{receive, send, conditional, while_statement, break_statement, continue_statement, throw_statement, return_statement, attempt}
+use Rattle.syntax.specs.Grammar.{◌▸◌, ◌◂◌, base, label, name, size, index, expression, optional, block}
+use Rattle.parser.specs.Parts.{arguments, receive, send, conditional, while_statement, break_statement, continue_statement, throw_statement, return_statement, attempt}
 use Rattle.syntax.specs.Tree.{NameTree, LabelTree, ExpressionTree, RightTree, SizeTree, StatementTree, DeclareTree, DeclareArrayTree, AssignTree, AssignElementTree, CallTree', NestedTree}
 
 -- what stands after the name of a local, and after the name that a statement begins with
@@ -25,7 +25,7 @@ local_tree at base label name (FirstSize size) = DeclareArrayTree at base label 
 abbrev pub named_tree : NameTree → AfterTree → StatementTree
 named_tree name (AssignedTree value) = AssignTree name value
 named_tree name (AtIndexTree index value) = AssignElementTree name index value
-named_tree name (ArgumentsTree arguments) = CallTree' (record { procedure = name; arguments = arguments })
+named_tree name (ArgumentsTree arguments) = CallTree' (name, arguments)
 
 -- after the name of a local stands its first value, or its size
 abbrev pub first_with : Form RightTree → Form FirstTree

@@ -1,14 +1,13 @@
 -- Parts of the grammar's productions by names, as the functions of the parser read them. Each is an alternative or a part of a
 -- production, as it stands there. Private.
 -- Source: our own.
-use Rattle.std.specs.Prelude.{ℕ, List, ◌∷◌, Option, true}
-use Rattle.syntax.specs.declared.line.Line.{Line}
+use Rattle.std.specs.Prelude.{ℕ, List, [], ◌∷◌, slice_get, Option, Some, unwrap_or, true}
 use Rattle.syntax.specs.declared.tree.BinaryOperator.{BinaryOperator}
 use Rattle.common.specs.declared.operator.Prefix.{Prefix}
-use Rattle.syntax.specs.Form.{Form, level, ◌·◌, many, ◌gives◌, only, table}
-use Rattle.syntax.specs.Grammar.{key, at, ◌▸◌, ◌◂◌, optional, separated, some, name, label, base, signs, operators_of, integer, index, variable_tree, grouped, others_of, chains, lines, after_line, unary, expression, call, right, size, block, condition, catch, thrown}
-use Rattle.syntax.specs.Symbol.{Expression, Unary}
-use Rattle.syntax.specs.Tree.{NameTree, ExpressionTree, UnaryTree, StatementTree, DeclareTree, DeclareArrayTree, AssignTree, AssignElementTree, CallTree', ReceiveTree, SendTree, if_tree, WhileTree, BreakTree, ContinueTree, ThrowTree, ReturnTree, TryTree, BlockTree, catches_of, ConstantTree, IntegerConstant, WrittenResultTree, ResultTree, ThrownTree}
+use Rattle.syntax.specs.Form.{Form, level, ◌·◌, ◌or◌, many, ◌gives◌, only, table}
+use Rattle.syntax.specs.Grammar.{at, ◌▸◌, ◌◂◌, optional, separated, some, name, label, base, signs, integer, index, variable_tree, grouped, others_of, chains, lines, unary, expression, call, right, size, block, condition, catch, direction, constant, written_result, parameter, throws}
+use Rattle.syntax.specs.Symbol.{Expression, Unary, Arguments}
+use Rattle.syntax.specs.Tree.{NameTree, ExpressionTree, UnaryTree, StatementTree, DeclareTree, DeclareArrayTree, AssignTree, AssignElementTree, CallTree', ReceiveTree, SendTree, if_tree, WhileTree, BreakTree, ContinueTree, ThrowTree, ReturnTree, TryTree, BlockTree, catches_of, ItemTree, ChannelItem, ExceptionItem, GlobalItem, ProcedureItem, ConstantTree, IntegerConstant, GlobalValueTree, ScalarTree, ArrayTree, WrittenResultTree, ThrownTree}
 
 -- of labels
 unfoldable pub readers : Form (Option (List NameTree))
@@ -18,8 +17,8 @@ readers = optional (":" ▸ some "," name)
 abbrev pub sign_of : List ℕ → Option Prefix
 sign_of = table signs
 
-abbrev pub operator_of : Line → List ℕ → Option BinaryOperator
-operator_of line = table (operators_of line)
+abbrev pub operator_of : (line : ℕ) → List ℕ → Option BinaryOperator
+operator_of line = table (unwrap_or (slice_get lines line) [])
 
 unfoldable pub parenthesised : Form ExpressionTree
 parenthesised = level (only "(") Expression ◂ ")" gives λ (parenthesis, opens, inner). inner
@@ -27,15 +26,18 @@ parenthesised = level (only "(") Expression ◂ ")" gives λ (parenthesis, opens
 unfoldable pub variable : Form ExpressionTree
 variable = name · optional index gives λ (name, index). variable_tree name index
 
+unfoldable pub arguments : Form (List ExpressionTree)
+arguments = level (only "(") Arguments ◂ ")" gives λ (parenthesis, opens, arguments). arguments
+
 unfoldable pub signed : Form ExpressionTree
 signed = level sign_of Unary gives λ (word, sign, operand). UnaryTree word.start sign operand
 
-abbrev pub chain : Line → Form ExpressionTree → Form ExpressionTree
+abbrev pub chain : (line : ℕ) → Form ExpressionTree → Form ExpressionTree
 chain line operand = operand · others_of line gives λ (first, others). grouped first others
 
 -- the operands of a line
-unfoldable pub operand_of : Line → Form ExpressionTree
-operand_of line = chains (after_line line lines) unary
+unfoldable pub operand_of : (line : ℕ) → Form ExpressionTree
+operand_of line = chains line unary
 
 -- of statements
 unfoldable pub declare : Form StatementTree
@@ -96,11 +98,34 @@ attempt = at "try" · block · catches gives λ ((at, body), catches). TryTree a
 unfoldable pub negative_constant : Form ConstantTree
 negative_constant = at "-" · integer gives λ (at, (after, value)). IntegerConstant at true value
 
+unfoldable pub global_value : Form GlobalValueTree
+global_value = "=" ▸ constant gives ScalarTree or size gives ArrayTree
+
 unfoldable pub valued : Form (ℕ × WrittenResultTree)
-valued = base · label gives λ ((at, base), label). (at, ResultTree base label)
+valued = base · label gives λ ((at, base), label). (at, Some (base, label))
+
+unfoldable pub thrown : Form ThrownTree
+thrown = name · label
 
 unfoldable pub thrown_list : Form (List ThrownTree)
 thrown_list = separated "," thrown
 
 unfoldable pub some_throws : Form (List ThrownTree)
-some_throws = key "throws" ◂ "(" · thrown_list ◂ ")" gives λ (word, thrown). thrown
+some_throws = at "throws" ◂ "(" · thrown_list ◂ ")" gives λ (word, thrown). thrown
+
+unfoldable pub channel : Form ItemTree
+channel = direction · label · name ◂ ";" gives λ (((at, direction), label), name). ChannelItem at direction label name
+
+unfoldable pub exception : Form ItemTree
+exception = at "exception" · name ◂ ";" gives λ (at, name). ExceptionItem at name
+
+unfoldable pub global : Form ItemTree
+global =
+    at "global" · base · label · name · global_value ◂ ";"
+    gives λ ((((at, (base_at, base)), label), name), value). GlobalItem at base label name value
+
+unfoldable pub procedure : Form ItemTree
+procedure =
+    written_result · name · optional label ◂ "(" · some "," parameter ◂ ")" · optional (":" ▸ label) · throws · block
+    gives λ (((((((at, result), name), begin), parameters), end), throws), body). ProcedureItem
+    (record { at = at; result = result; name = name; begin = begin; parameters = parameters; end = end; throws = throws; body = body })

@@ -1,8 +1,8 @@
 ghost use Rattle.std.specs.Prelude.{◌≡◌, ℕ, map};
 ghost use Rattle.lexer.specs.Terminal.{terminals_of};
 ghost use Rattle.syntax.specs.Form.{many, ◌·◌, ◌gives◌};
-ghost use Rattle.syntax.specs.Grammar.{constant, global_value, channel, exception, global, written_result, parameter, thrown, throws, procedure, direction, item, label, separated, ◌▸◌, optional, some};
-ghost use Rattle.parser.specs.Parts.{negative_constant, some_throws, valued, thrown_list};
+ghost use Rattle.syntax.specs.Grammar.{constant, written_result, parameter, throws, direction, item, label, separated, ◌▸◌, optional, some};
+ghost use Rattle.parser.specs.Parts.{procedure, global, exception, channel, global_value, thrown, negative_constant, some_throws, valued, thrown_list};
 ghost use Rattle.syntax.specs.Tree.{ParameterTree, ThrownTree, label_tree, optional_label_tree, constant_tree, global_value_tree, written_result_tree, parameter_tree, thrown_tree, item_tree};
 ghost use Rattle.parser.specs.Reading.{IsRead, read, kind_at, begins_item};
 
@@ -91,7 +91,7 @@ impl<'t, 'a> Parser<'t, 'a> {
         }
     }
 
-    #[tactic(auto, unfolding(syntax::specs::Grammar::global, crate::specs::Reading::read))]
+    #[tactic(auto, unfolding(crate::specs::Parts::global, crate::specs::Parts::global_value, crate::specs::Reading::read))]
     fn parse_global(&mut self) -> Result<Item<'a>, ParseFault>
         ensures { (room : ℕ) → IsRead item_tree result self.new.rest.now
             (read room global (terminals_of self.old.rest.now)) }
@@ -111,7 +111,7 @@ impl<'t, 'a> Parser<'t, 'a> {
         }))
     }
 
-    #[tactic(auto, unfolding(syntax::specs::Grammar::exception, crate::specs::Reading::read))]
+    #[tactic(auto, unfolding(crate::specs::Parts::exception, crate::specs::Reading::read))]
     fn parse_exception(&mut self) -> Result<Item<'a>, ParseFault>
         ensures { (room : ℕ) → IsRead item_tree result self.new.rest.now
             (read room exception (terminals_of self.old.rest.now)) }
@@ -143,7 +143,7 @@ impl<'t, 'a> Parser<'t, 'a> {
         }
     }
 
-    #[tactic(auto, unfolding(syntax::specs::Grammar::channel, crate::specs::Reading::read))]
+    #[tactic(auto, unfolding(crate::specs::Parts::channel, crate::specs::Reading::read))]
     fn parse_channel(&mut self) -> Result<Item<'a>, ParseFault>
         ensures { (room : ℕ) → IsRead item_tree result self.new.rest.now
             (read room channel (terminals_of self.old.rest.now)) }
@@ -246,7 +246,7 @@ impl<'t, 'a> Parser<'t, 'a> {
         Ok(None)
     }
 
-    #[tactic(auto, unfolding(syntax::specs::Grammar::thrown, crate::specs::Reading::read))]
+    #[tactic(auto, unfolding(crate::specs::Parts::thrown, crate::specs::Reading::read))]
     fn parse_thrown(&mut self) -> Result<Thrown<'a>, ParseFault>
         ensures { (room : ℕ) → IsRead thrown_tree result self.new.rest.now
             (read room thrown (terminals_of self.old.rest.now)) }
@@ -301,7 +301,7 @@ impl<'t, 'a> Parser<'t, 'a> {
         Ok(Vec::new(self.alloc))
     }
 
-    #[tactic(auto, unfolding(syntax::specs::Grammar::procedure, crate::specs::Reading::read))]
+    #[tactic(auto, unfolding(crate::specs::Parts::procedure, crate::specs::Reading::read))]
     fn parse_procedure(&mut self) -> Result<Item<'a>, ParseFault>
         ensures { IsRead item_tree result self.new.rest.now (read MAX_LEVELS procedure
             (terminals_of self.old.rest.now)) }

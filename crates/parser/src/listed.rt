@@ -50,8 +50,9 @@ impl<'t, 'a> Parser<'t, 'a> {
         ensures { (room : ℕ) → IsRead (λ list. map T.tree list.items) result self.new.rest.now
             (read room (separated (text_of separator) T.form) (terminals_of self.old.rest.now)) }
     {
-        let mut list = Vec::new(self.alloc);
         let first = T::parse(self)?;
+        // Most lists have one.
+        let mut list = Vec::with_capacity(self.alloc, 1)?;
         list.push(first)?;
         while self.is_at(separator) {
             let next = self.parse_another::<T>(separator)?;

@@ -2,8 +2,8 @@ ghost use Rattle.std.specs.Prelude.{◌≡◌, ◌<◌, ◌++◌, ◌∷◌, [],
 ghost use Rattle.std.specs.Vec.{vec_capacity, vec_len};
 ghost use Rattle.lexer.specs.Terminal.{terminals_of};
 ghost use Rattle.syntax.specs.Form.{many, ◌·◌, ◌gives◌};
-ghost use Rattle.syntax.specs.Grammar.{expression, arguments, integer, condition, size, block, catch, index, separated, ◌▸◌, ◌◂◌, optional, some};
-ghost use Rattle.parser.specs.Parts.{receive, send, conditional, while_statement, break_statement, continue_statement, throw_statement, return_statement, attempt, catches};
+ghost use Rattle.syntax.specs.Grammar.{expression, integer, condition, size, block, catch, index, separated, ◌▸◌, ◌◂◌, optional, some};
+ghost use Rattle.parser.specs.Parts.{arguments, receive, send, conditional, while_statement, break_statement, continue_statement, throw_statement, return_statement, attempt, catches};
 ghost use Rattle.syntax.specs.Tree.{name_tree, expression_tree, optional_expression_tree, right_tree, size_tree, statement_tree, block_tree, optional_block_tree, catch_tree, NestedTree};
 ghost use Rattle.parser.specs.Factored.{AtIndexTree};
 ghost use Rattle.parser.specs.Reading.{IsRead, read, right_read, right_after, is_at, first_read, first_tree, after_read, after_tree, declare_read, named_read, statement_read, begins_statement, begins_expression, kind_at};
@@ -354,8 +354,9 @@ impl<'t, 'a> Parser<'t, 'a> {
         ensures { IsRead (λ list. map catch_tree list.items) result self.new.rest.now
             (read room catches (terminals_of self.old.rest.now)) }
     {
-        let mut catches = Vec::new(self.alloc);
         let first = self.parse_catch(room)?;
+        // Mostly there is one.
+        let mut catches = Vec::with_capacity(self.alloc, 1)?;
         catches.push(first)?;
         while self.is_at(Kind::Catch) {
             let one = self.parse_catch(room)?;

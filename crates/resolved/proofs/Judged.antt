@@ -1,12 +1,17 @@
 -- What the judgements say, part by part: their exits, labels, demands and faults are those that code and proofs walk apart.
 use Rattle.std.proofs.Common.{◌≡◌, refl, sym, ap, ◌∙◌, ℕ, suc, Bool, true, false, not, List, [], ◌∷◌, ◌++◌, filter, length, append_assoc, append-nil, add-one, length-append}
 use Rattle.std.specs.Prelude.{flat_map, if◌then◌else◌, slice_index_or, Some, None}
+use Rattle.std.specs.Prelude.{◌||◌}
+use Rattle.std.specs.List.{list_any}
+use Rattle.std.proofs.Math.Bool.{or_assoc, or-false}
 use Rattle.std.proofs.lemmas.Bool.{or_parts}
+use Rattle.std.proofs.lemmas.List.Folds.{list_any-append}
 use Rattle.resolved.specs.declared.statement.Exit.{Exit}
 use Rattle.resolved.specs.declared.statement.Exit.TheVariants.{Normal, Return, Break, Continue, Throw}
 use Rattle.resolved.specs.declared.target.Target.TheVariants.{ToBegin, ToThrown, ToLoop}
-use Rattle.resolved.specs.Tree.{Statement, Assign, Clear, Store, Receive, Send, Call, If, While, Leave, ReturnWith, Try, Nested, Block, Empty, Then, Handlers, NoMore, Catch}
+use Rattle.resolved.specs.Tree.{Expression, Statement, Assign, Clear, Store, Receive, Send, Call, If, While, Leave, ReturnWith, Try, Nested, Block, Empty, Then, Handlers, NoMore, Catch}
 use Rattle.resolved.specs.Program.{Program, ProcedureEntry, ThrownEntry, procedure_at}
+use Rattle.resolved.specs.BitUse.{expression_uses_bits, statement_uses_bits, block_uses_bits, handlers_use_bits, uses_bits, procedures_use_bits}
 use Rattle.resolved.specs.Exits.{same_exit, has_exit, one_exit, list_if, leaves_loop, raises, thrown_exits, taken_by, handles, passes, then_exits, statement_exits, block_exits, handlers_exits}
 use Rattle.resolved.specs.ExitFaults.{statement_faults, block_faults, handlers_faults, procedure_faults}
 use Rattle.resolved.specs.Labelled.{Scope, here, Join, one, label_of, value_label, raise_label, ExitLabels, Demand, demand, Judgement, whole, without, own, rule_of, rule_of_block, rule_of_handlers, exit_demands, procedure_judgement, judgement_from, program_demands, exit_faults}
@@ -73,9 +78,9 @@ whole-alike : (pc : Join) (inner : Judgement) (exits : List Exit) (x : ExitLabel
     → Alike (whole pc inner).labels (at_exits exits pc x)
 whole-alike pc inner exits x e same exit = rw (e, same exit) refl
 
-own-alike : (reached : Bool) (at : ℕ) (exits : List Exit) (pc q : Join) (demands : List Demand)
-    → Alike (whole pc (own reached at exits q demands)).labels (at_exits exits pc (λ exit. q))
-own-alike reached at exits pc q demands exit = go (has_exit exits exit) (one_exit exits)
+own-alike : (reached : Bool) (at : ℕ) (evaluated : List Expression) (exits : List Exit) (pc q : Join) (demands : List Demand)
+    → Alike (whole pc (own reached at evaluated exits q demands)).labels (at_exits exits pc (λ exit. q))
+own-alike reached at evaluated exits pc q demands exit = go (has_exit exits exit) (one_exit exits)
   where
     go : (has single : Bool) → list_if has (if single then pc else list_if has q) ≡ list_if has (if single then pc else q)
     go true single = refl
@@ -185,6 +190,56 @@ module _ (scope : Scope) where
           handlers_faults-of rest loop (filter (λ exit. not (same_exit (Throw handled) exit)) left) x,
         ) refl
 
+  -- ---- bits
+  abbrev any_bits : List Expression → Bool
+  any_bits es = list_any expression_uses_bits es
+
+  mutual
+    pub bits-of : (s : Statement) (loop reached : Bool) (pc : Join)
+        → any_bits (rule_of scope loop reached pc s).expressions ≡ statement_uses_bits s
+    bits-of (Assign at x e) loop reached pc = or-false (expression_uses_bits e)
+    bits-of (Clear at slot) loop reached pc = refl
+    bits-of (Store at array count index e) loop reached pc = ap (λ b. expression_uses_bits index || b) (or-false (expression_uses_bits e))
+    bits-of (Receive at channel target) loop reached pc = refl
+    bits-of (Send at channel e) loop reached pc = or-false (expression_uses_bits e)
+    bits-of (Call at procedure arguments target) loop reached pc = refl
+    bits-of (If at e then_block else_block) loop reached pc =
+        let branch : Join = pc ++ raise_label scope e ++ value_label scope e in
+        let first : List Expression = (rule_of_block scope loop true branch then_block).expressions in
+        let second : List Expression = (rule_of_block scope loop true branch else_block).expressions in
+        ap (λ b. expression_uses_bits e || b) (list_any-append expression_uses_bits first second)
+        ∙ rw (block_bits-of then_block loop true branch, block_bits-of else_block loop true branch)
+        (sym (or_assoc (expression_uses_bits e) (block_uses_bits then_block) (block_uses_bits else_block)))
+    bits-of (While at l e body) loop reached pc =
+        let b : Join = one (label_of scope.program (ToLoop scope.number l)) ++ raise_label scope e ++ value_label scope e in
+        ap (λ b. expression_uses_bits e || b) (block_bits-of body true true b)
+    bits-of (Leave at exit) loop reached pc = refl
+    bits-of (ReturnWith at None) loop reached pc = refl
+    bits-of (ReturnWith at (Some e)) loop reached pc = or-false (expression_uses_bits e)
+    bits-of (Try at block handlers) loop reached pc =
+        let inner : Judgement = whole pc (rule_of_block scope loop true pc block) in
+        list_any-append expression_uses_bits inner.expressions (rule_of_handlers scope loop inner.exits inner.labels handlers).expressions
+        ∙ rw (block_bits-of block loop true pc, handlers_bits-of handlers loop inner.exits inner.labels) refl
+    bits-of (Nested at block) loop reached pc = block_bits-of block loop true pc
+
+    block_bits-of : (block : Block) (loop reached : Bool) (pc : Join)
+        → any_bits (rule_of_block scope loop reached pc block).expressions ≡ block_uses_bits block
+    block_bits-of Empty loop reached pc = refl
+    block_bits-of (Then s rest) loop reached pc =
+        let first : Judgement = whole pc (rule_of scope loop reached pc s) in
+        let later : Judgement = rule_of_block scope loop (has_exit first.exits Normal) (first.labels Normal) rest in
+        list_any-append expression_uses_bits first.expressions later.expressions
+        ∙ rw (bits-of s loop reached pc, block_bits-of rest loop (has_exit first.exits Normal) (first.labels Normal)) refl
+
+    handlers_bits-of : (handlers : Handlers) (loop : Bool) (left : List Exit) (x : ExitLabels)
+        → any_bits (rule_of_handlers scope loop left x handlers).expressions ≡ handlers_use_bits handlers
+    handlers_bits-of NoMore loop left x = refl
+    handlers_bits-of (Catch at handled body rest) loop left x =
+        let untaken : List Exit = filter (λ exit. not (same_exit (Throw handled) exit)) left in
+        let inner : Judgement = rule_of_block scope loop true (x (Throw handled)) body in
+        list_any-append expression_uses_bits inner.expressions (rule_of_handlers scope loop untaken x rest).expressions
+        ∙ rw (block_bits-of body loop true (x (Throw handled)), handlers_bits-of rest loop untaken x) refl
+
   -- ---- labels and demands
   block_whole-of : (block : Block) (loop reached : Bool) (pc : Join)
       → Alike (rule_of_block scope loop reached pc block).labels (block_rule scope pc block)
@@ -197,12 +252,12 @@ module _ (scope : Scope) where
     pub labels-of : (s : Statement) (loop reached : Bool) (pc : Join)
         → Alike (whole pc (rule_of scope loop reached pc s)).labels (statement_exit_labels scope pc s)
     labels-of (Assign at x e) loop reached pc =
-        let q : Join = pc ++ raise_label scope e in own-alike reached at (Normal ∷ thrown_exits (raises e)) pc q []
-    labels-of (Clear at slot) loop reached pc = own-alike reached at (Normal ∷ []) pc pc []
-    labels-of (Store at array count index e) loop reached pc = own-alike reached at (statement_exits scope.program (Store at array count index e)) pc _ []
-    labels-of (Receive at channel target) loop reached pc = own-alike reached at (statement_exits scope.program (Receive at channel target)) pc _ []
+        let q : Join = pc ++ raise_label scope e in own-alike reached at (e ∷ []) (Normal ∷ thrown_exits (raises e)) pc q []
+    labels-of (Clear at slot) loop reached pc = own-alike reached at [] (Normal ∷ []) pc pc []
+    labels-of (Store at array count index e) loop reached pc = own-alike reached at [] (statement_exits scope.program (Store at array count index e)) pc _ []
+    labels-of (Receive at channel target) loop reached pc = own-alike reached at [] (statement_exits scope.program (Receive at channel target)) pc _ []
     labels-of (Send at channel e) loop reached pc =
-        let q : Join = pc ++ raise_label scope e in own-alike reached at (Normal ∷ thrown_exits (raises e)) pc q []
+        let q : Join = pc ++ raise_label scope e in own-alike reached at (e ∷ []) (Normal ∷ thrown_exits (raises e)) pc q []
     labels-of (Call at procedure arguments target) loop reached pc = λ exit. refl
     labels-of (If at e then_block else_block) loop reached pc =
         let branch : Join = pc ++ raise_label scope e ++ value_label scope e in
@@ -220,10 +275,10 @@ module _ (scope : Scope) where
         block_whole-of body true true b (block_labels-of body true true b) in
         whole-alike pc (rule_of scope loop reached pc s) (statement_exits scope.program s) _ (exits-of s loop reached pc)
         (λ exit. rw (inner exit, inner Break) (loop-alike (raises e) q (b ++ block_exit_labels scope b body Break) (block_exit_labels scope b body) exit))
-    labels-of (Leave at exit) loop reached pc = own-alike reached at (exit ∷ []) pc pc []
-    labels-of (ReturnWith at None) loop reached pc = own-alike reached at (Return ∷ []) pc pc []
+    labels-of (Leave at exit) loop reached pc = own-alike reached at [] (exit ∷ []) pc pc []
+    labels-of (ReturnWith at None) loop reached pc = own-alike reached at [] (Return ∷ []) pc pc []
     labels-of (ReturnWith at (Some e)) loop reached pc =
-        let q : Join = pc ++ raise_label scope e in own-alike reached at (Return ∷ thrown_exits (raises e)) pc q []
+        let q : Join = pc ++ raise_label scope e in own-alike reached at (e ∷ []) (Return ∷ thrown_exits (raises e)) pc q []
     labels-of (Try at block handlers) loop reached pc =
         let s : Statement = Try at block handlers in
         let block_whole : Judgement = whole pc (rule_of_block scope loop true pc block) in
@@ -344,6 +399,9 @@ module _ (scope : Scope) where
       (exit_demands-alike inner.exits (block_exits scope.program body) inner.labels (block_exit_labels scope begin body)
       (block_exits-of body false true begin) (inner_labels-of body false begin))
 
+  procedure_bits-of : any_bits (procedure_judgement scope).expressions ≡ block_uses_bits (here scope).body
+  procedure_bits-of = block_bits-of (here scope).body false true begin
+
   procedure_faults-of : (procedure_judgement scope).faults ≡ procedure_faults scope.program (here scope)
   procedure_faults-of =
       rw (block_faults-of (here scope).body false true begin, block_exits-of (here scope).body false true begin) refl
@@ -378,3 +436,19 @@ faults-from program f before (procedure ∷ rest) e all =
 
 pub faults-apart : (program : Program) → exit_faults program ≡ flat_map (procedure_faults program) program.procedures
 faults-apart program = faults-from program 0 [] program.procedures refl refl
+
+bits-from : (program : Program) (f : ℕ) (before procedures : List ProcedureEntry) → f ≡ length before → program.procedures ≡ (before ++ procedures)
+    → list_any expression_uses_bits (judgement_from program f procedures).expressions ≡ procedures_use_bits procedures
+bits-from program f before [] e all = refl
+bits-from program f before (procedure ∷ rest) e all =
+    let scope : Scope = record { program = program; number = f } in
+    let own_is : procedure_at program f ≡ procedure = rw (all, e) (there before procedure rest _) in
+    let past : suc f ≡ length (before ++ procedure ∷ []) = rw e (sym (add-one (length before)) ∙ sym (length-append before (procedure ∷ []))) in
+    list_any-append expression_uses_bits (procedure_judgement scope).expressions (judgement_from program (suc f) rest).expressions
+    ∙ rw (
+      procedure_bits-of scope ∙ ap (λ (entry : ProcedureEntry). block_uses_bits entry.body) own_is,
+      bits-from program (suc f) (before ++ procedure ∷ []) rest past (all ∙ sym (append_assoc before (procedure ∷ []) rest)),
+    ) refl
+
+pub bits-apart : (program : Program) → uses_bits program ≡ procedures_use_bits program.procedures
+bits-apart program = bits-from program 0 [] program.procedures refl refl

@@ -1,18 +1,19 @@
 -- Where programs use the operators on bits.
 -- Source: our own.
-use Rattle.std.specs.Prelude.{Bool, true, false, Some, None, ◌||◌}
+use Rattle.std.specs.Prelude.{List, Bool, true, false, Some, None, ◌||◌}
 use Rattle.std.specs.List.{list_any}
 use Rattle.resolved.specs.declared.expression.Operator.{Operator}
 use Rattle.resolved.specs.declared.expression.Operator.TheVariants.{Compute}
 use Rattle.common.specs.declared.operator.Arithmetic.TheVariants.{Bits}
 use Rattle.resolved.specs.Tree.{Expression, Integer, Logical, Read, Element, Unary, Binary, Short, Statement, Assign, Clear, Store, Receive, Send, Call, If, While, Leave, ReturnWith, Try, Nested, Block, Empty, Then, Handlers, NoMore, Catch}
 use Rattle.resolved.specs.Program.{Program, ProcedureEntry}
+use Rattle.resolved.specs.Labelled.{judgement_from}
 
 abbrev pub is_bit_operator : Operator → Bool
 is_bit_operator (Compute (Bits operator)) = true
 is_bit_operator other = false
 
--- whether one is in an expression, a statement, a block or handlers
+-- whether one is in an expression
 abbrev pub expression_uses_bits : Expression → Bool
 expression_uses_bits (Integer n) = false
 expression_uses_bits (Logical b) = false
@@ -22,6 +23,13 @@ expression_uses_bits (Unary prefix e) = expression_uses_bits e
 expression_uses_bits (Binary operator d e) = is_bit_operator operator || expression_uses_bits d || expression_uses_bits e
 expression_uses_bits (Short connective d e) = expression_uses_bits d || expression_uses_bits e
 
+-- whether a program uses one somewhere
+abbrev pub uses_bits : Program → Bool
+uses_bits program = list_any expression_uses_bits (judgement_from program 0 program.procedures).expressions
+
+-- ---- the same by a walk over the statements alone, as code goes; that both agree is a law (`parts_are_those_of_the_rules`)
+
+-- whether one is in a statement, a block or handlers
 abbrev mutual
   pub statement_uses_bits : Statement → Bool
   statement_uses_bits (Assign at x e) = expression_uses_bits e
@@ -30,8 +38,7 @@ abbrev mutual
   statement_uses_bits (Receive at channel target) = false
   statement_uses_bits (Send at channel e) = expression_uses_bits e
   statement_uses_bits (Call at procedure arguments target) = list_any expression_uses_bits arguments
-  statement_uses_bits (If at e then_block else_block) =
-      expression_uses_bits e || block_uses_bits then_block || block_uses_bits else_block
+  statement_uses_bits (If at e then_block else_block) = expression_uses_bits e || block_uses_bits then_block || block_uses_bits else_block
   statement_uses_bits (While at loop e body) = expression_uses_bits e || block_uses_bits body
   statement_uses_bits (Leave at exit) = false
   statement_uses_bits (ReturnWith at None) = false
@@ -47,6 +54,5 @@ abbrev mutual
   handlers_use_bits NoMore = false
   handlers_use_bits (Catch at handled body rest) = block_uses_bits body || handlers_use_bits rest
 
--- whether a program uses one somewhere
-abbrev pub uses_bits : Program → Bool
-uses_bits program = list_any (λ (procedure : ProcedureEntry). block_uses_bits procedure.body) program.procedures
+abbrev pub procedures_use_bits : List ProcedureEntry → Bool
+procedures_use_bits procedures = list_any (λ (procedure : ProcedureEntry). block_uses_bits procedure.body) procedures

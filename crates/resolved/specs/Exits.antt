@@ -62,9 +62,6 @@ raises (Unary prefix e) = raises e
 raises (Binary operator d e) = raises d ++ raises e ++ list_if (is_division operator && divisor_can_raise e) (ARITH ∷ [])
 raises (Short connective d e) = raises d ++ raises e
 
-abbrev pub thrown_exits : List ℕ → List Exit
-thrown_exits exceptions = map (λ exception. Throw exception) exceptions
-
 -- the exceptions that a procedure declares
 abbrev pub declared_by : List ThrownEntry → List ℕ
 declared_by entries = map (λ (entry : ThrownEntry). entry.exception) entries
@@ -79,6 +76,10 @@ abbrev pub fault_unless : Bool → ExitRefusalKind → (at : ℕ) → List (Refu
 fault_unless test kind at = if test then [] else (record { kind = kind; at = at } ∷ [])
 
 -- ---- what the rules give of exits alone, by which code and proofs speak of them
+
+-- the exits by exceptions
+abbrev pub thrown_exits : List ℕ → List Exit
+thrown_exits exceptions = map (λ exception. Throw exception) exceptions
 
 -- the exceptions of an access with this index
 abbrev pub index_raises : Expression → (length : ℕ) → List ℕ

@@ -8,7 +8,7 @@
 -- Source: our own rules; several exits of a statement, with a label for each, as in JFlow (Myers 1999), simple security and confinement after Volpano,
 -- Smith and Irvine 1996.
 use Rattle.std.specs.Prelude.{ℕ, suc, List, [], ◌∷◌, ◌++◌, Bool, true, false, not, map, filter, flat_map, ◌==◌, ◌&&◌, ◌||◌, if◌then◌else◌, Option, Some, None, is_some, unwrap_or, option_map, find}
-use Rattle.std.specs.List.{list_all}
+use Rattle.std.specs.List.{list_all, list_any}
 use Rattle.principals.specs.ActsFor.{PrincipalHierarchy}
 use Rattle.labels.specs.Label.{Label}
 use Rattle.lattices.specs.Constraints.{Atom, Written, Unknown, Constraint, FitsAll, join_of, value}
@@ -25,7 +25,7 @@ use Rattle.resolved.specs.declared.target.Target.{Target}
 use Rattle.resolved.specs.declared.target.Target.TheVariants.{ToVariable, ToChannel, ToBegin, ToParameter, ToValue, ToEnd, ToThrown, ToLoop}
 use Rattle.resolved.specs.Tree.{Expression, Integer, Logical, Read, Element, Unary, Binary, Short, Statement, Assign, Clear, Store, Receive, Send, Call, If, While, Leave, ReturnWith, Try, Nested, Block, Empty, Then, Handlers, NoMore, Catch}
 use Rattle.resolved.specs.Program.{Program, ProcedureEntry, ResultEntry, ThrownEntry, channel_at, global_at, slot_at, procedure_at}
-use Rattle.resolved.specs.Exits.{same_exit, has_exit, one_exit, taken_by, index_can_raise, divisor_can_raise, is_division, list_if, raises, thrown_exits, declared_by, fault_unless}
+use Rattle.resolved.specs.Exits.{same_exit, has_exit, one_exit, taken_by, index_can_raise, divisor_can_raise, is_division, list_if, raises, declared_by, fault_unless}
 
 -- a label that is not written: of a local without a written one, or of a loop, each by the number of its procedure and its own
 pub data Unwritten : Type 0 where
@@ -55,8 +55,7 @@ label_of program (ToVariable f (Local n)) =
 label_of program (ToChannel channel) = Written (channel_at program channel).label
 label_of program (ToBegin f) = Written (procedure_at program f).begin_label
 label_of program (ToParameter f i) = Written (unwrap_or (slot_at (procedure_at program f) i).written [])
-label_of program (ToValue f) =
-    Written (unwrap_or (option_map (λ (entry : ResultEntry). entry.label) (procedure_at program f).result) [])
+label_of program (ToValue f) = Written (unwrap_or (option_map (λ (entry : ResultEntry). entry.label) (procedure_at program f).result) [])
 label_of program (ToEnd f) = Written (procedure_at program f).end_label
 label_of program (ToThrown f exception) = Written (unwrap_or (option_map (λ (entry : ThrownEntry). entry.label)
     (find (λ (entry : ThrownEntry). exception == entry.exception) (procedure_at program f).throws)) [])
@@ -78,21 +77,18 @@ value_label scope (Short connective d e) = value_label scope d ++ value_label sc
 
 -- whether there are any
 abbrev pub any_of : {A : Type 0} → List A → Bool
-any_of [] = false
-any_of (first ∷ rest) = true
+any_of list = list_any (λ element. true) list
 
 -- R: the label of whether an expression raises an exception
 abbrev pub raise_label : Scope → Expression → Join
 raise_label scope (Integer n) = []
 raise_label scope (Logical b) = []
 raise_label scope (Read x) = []
-raise_label scope (Element array length index) =
-    raise_label scope index ++ list_if (index_can_raise index length) (value_label scope index)
+raise_label scope (Element array length index) = raise_label scope index ++ list_if (index_can_raise index length) (value_label scope index)
 raise_label scope (Unary prefix e) = raise_label scope e
 raise_label scope (Binary operator d e) =
     raise_label scope d ++ raise_label scope e ++ list_if (is_division operator && divisor_can_raise e) (value_label scope e)
-raise_label scope (Short connective d e) =
-    raise_label scope d ++ raise_label scope e ++ list_if (any_of (raises e)) (value_label scope d)
+raise_label scope (Short connective d e) = raise_label scope d ++ raise_label scope e ++ list_if (any_of (raises e)) (value_label scope d)
 
 -- X: a label for each exit
 abbrev pub ExitLabels : Type 0
@@ -112,8 +108,7 @@ abbrev pub Demand : Type 0
 Demand = Constraint Target Unwritten Label
 
 abbrev pub demand : Program → (at rule : ℕ) → (left : Join) → Target → List Demand
-demand program at rule left target =
-    record { at = at; rule = rule; left = left; target = target; right = label_of program target } ∷ []
+demand program at rule left target = record { at = at; rule = rule; left = left; target = target; right = label_of program target } ∷ []
 
 -- the demand on a target, if there is one
 abbrev pub target_demand : Scope → (at rule : ℕ) → Join → Option Variable → List Demand
@@ -124,12 +119,12 @@ target_demand scope at rule left (Some x) = demand scope.program at rule left (T
 abbrev pub argument_demands : Scope → (at : ℕ) → (q : Join) → (callee i : ℕ) → List Expression → List Demand
 argument_demands scope at q callee i [] = []
 argument_demands scope at q callee i (e ∷ rest) =
-    demand scope.program at 6 (q ++ value_label scope e) (ToParameter callee i)
-    ++ argument_demands scope at q callee (suc i) rest
+    demand scope.program at 6 (q ++ value_label scope e) (ToParameter callee i) ++ argument_demands scope at q callee (suc i) rest
 
--- the judgement on what is reached at pc: its possible exits, of which one may be named several times; X; the demands, in the order in
--- which its rule lists them; and what is wrong with its exits, in the order in which they are looked at
+-- the judgement on what is reached at pc: the expressions in it; its possible exits, of which one may be named several times; X; the
+-- demands, in the order in which its rule lists them; and what is wrong with its exits, in the order in which they are looked at
 pub record Judgement : Type 0 where
+  pub expressions : List Expression
   pub exits : List Exit
   pub labels : ExitLabels
   pub demands : List Demand
@@ -139,6 +134,7 @@ pub record Judgement : Type 0 where
 infixl 50 ◌&◌
 abbrev pub ◌&◌ : Judgement → Judgement → Judgement
 first & second = record {
+  expressions = first.expressions ++ second.expressions;
   exits = first.exits ++ second.exits;
   labels = λ exit. first.labels exit ++ second.labels exit;
   demands = first.demands ++ second.demands;
@@ -159,11 +155,19 @@ whole pc inner =
 
 -- what ends by one of these exits, at q
 abbrev pub ending : List Exit → (q : Join) → Judgement
-ending exits q = record { exits = exits; labels = λ exit. list_if (has_exit exits exit) q; demands = []; faults = [] }
+ending exits q = record { expressions = []; exits = exits; labels = λ exit. list_if (has_exit exits exit) q; demands = []; faults = [] }
 
--- what a statement does beside the blocks in it: it ends by these exits at q, and demands this; and it is at fault if it is not reached
-abbrev pub own : (reached : Bool) → (at : ℕ) → List Exit → (q : Join) → List Demand → Judgement
-own reached at exits q demands = record (ending exits q) { demands = demands; faults = fault_unless reached Unreachable at }
+-- what a statement does beside the blocks in it: it evaluates these expressions, ends by these exits at q, and demands this; and it is
+-- at fault if it is not reached
+abbrev pub own : (reached : Bool) → (at : ℕ) → List Expression → List Exit → (q : Join) → List Demand → Judgement
+own reached at evaluated exits q demands =
+    record (ending exits q) { expressions = evaluated; demands = demands; faults = fault_unless reached Unreachable at }
+
+-- what a statement does that evaluates an expression and ends by an exit: the value flows to a target
+abbrev pub own_value : Scope → (reached : Bool) → (pc : Join) → (at rule : ℕ) → Exit → Expression → Target → Judgement
+own_value scope reached pc at rule exit e target =
+    let q : Join = pc ++ raise_label scope e in
+    own reached at (e ∷ []) (exit ∷ map Throw (raises e)) q (demand scope.program at rule (q ++ value_label scope e) target)
 
 -- the rules of statements, blocks and handlers, each in one clause. A statement stands in a loop or not, and is reached where the one
 -- before it can end normally. q is the label at which it has evaluated its own expressions, and at which these raise exceptions; that of
@@ -171,34 +175,30 @@ own reached at exits q demands = record (ending exits q) { demands = demands; fa
 -- before it took; the handler is reached at the label of its exception
 abbrev mutual
   pub rule_of : Scope → (in_loop reached : Bool) → (pc : Join) → Statement → Judgement
-  rule_of scope in_loop reached pc (Assign at x e) =
-      let q : Join = pc ++ raise_label scope e in
-      own reached at (Normal ∷ thrown_exits (raises e)) q (demand scope.program at 1 (q ++ value_label scope e) (ToVariable scope.number x))
+  rule_of scope in_loop reached pc (Assign at x e) = own_value scope reached pc at 1 Normal e (ToVariable scope.number x)
   rule_of scope in_loop reached pc (Clear at slot) =
-      own reached at (Normal ∷ []) pc (demand scope.program at 2 pc (ToVariable scope.number (Local slot)))
+      own reached at [] (Normal ∷ []) pc (demand scope.program at 2 pc (ToVariable scope.number (Local slot)))
   rule_of scope in_loop reached pc (Store at array length index e) =
       let out_of_range : Join = list_if (index_can_raise index length) (value_label scope index) in
       let q : Join = pc ++ raise_label scope index ++ raise_label scope e ++ out_of_range in
       let left : Join = q ++ value_label scope index ++ value_label scope e in
       let exceptions : List ℕ = raises index ++ raises e ++ list_if (index_can_raise index length) (BOUNDS ∷ []) in
-      own reached at (Normal ∷ thrown_exits exceptions) q (demand scope.program at 3 left (ToVariable scope.number array))
+      own reached at (index ∷ e ∷ []) (Normal ∷ map Throw exceptions) q (demand scope.program at 3 left (ToVariable scope.number array))
   rule_of scope in_loop reached pc (Receive at channel target) =
       let q : Join = pc ++ one (label_of scope.program (ToChannel channel)) in
-      own reached at (Normal ∷ Throw END ∷ []) q (demand scope.program at 4 pc (ToChannel channel) ++ target_demand scope at 4 q target)
-  rule_of scope in_loop reached pc (Send at channel e) =
-      let q : Join = pc ++ raise_label scope e in
-      own reached at (Normal ∷ thrown_exits (raises e)) q (demand scope.program at 5 (q ++ value_label scope e) (ToChannel channel))
+      own reached at [] (Normal ∷ Throw END ∷ []) q (demand scope.program at 4 pc (ToChannel channel) ++ target_demand scope at 4 q target)
+  rule_of scope in_loop reached pc (Send at channel e) = own_value scope reached pc at 5 Normal e (ToChannel channel)
   rule_of scope in_loop reached pc (Call at procedure arguments target) =
       let q : Join = pc ++ flat_map (raise_label scope) arguments in
       let x : ExitLabels = call_exit_labels scope.program procedure q in
       let asked : List Demand = demand scope.program at 6 q (ToBegin procedure) ++ argument_demands scope at q procedure 0 arguments
       ++ target_demand scope at 6 (x Normal ++ one (label_of scope.program (ToValue procedure))) target in
       let exceptions : List ℕ = flat_map raises arguments ++ declared_by (procedure_at scope.program procedure).throws in
-      record (own reached at (Normal ∷ thrown_exits exceptions) q asked) { labels = x }
+      record (own reached at arguments (Normal ∷ map Throw exceptions) q asked) { labels = x }
   rule_of scope in_loop reached pc (If at e then_block else_block) =
       let q : Join = pc ++ raise_label scope e in
       let branch : Join = q ++ value_label scope e in
-      own reached at (thrown_exits (raises e)) q [] & whole branch (rule_of_block scope in_loop true branch then_block)
+      own reached at (e ∷ []) (map Throw (raises e)) q [] & whole branch (rule_of_block scope in_loop true branch then_block)
       & whole branch (rule_of_block scope in_loop true branch else_block)
   rule_of scope in_loop reached pc (While at loop e body) =
       let to_loop : Join → List Demand = λ left. demand scope.program at 8 left (ToLoop scope.number loop) in
@@ -206,19 +206,17 @@ abbrev mutual
       let b : Join = q ++ value_label scope e in
       let inner : Judgement = whole b (rule_of_block scope true true b body) in
       let back : List Demand = to_loop (inner.labels Normal ++ inner.labels Continue) in
-      ending (Normal ∷ []) (b ++ inner.labels Break) & own reached at (thrown_exits (raises e)) q (to_loop pc)
+      ending (Normal ∷ []) (b ++ inner.labels Break) & own reached at (e ∷ []) (map Throw (raises e)) q (to_loop pc)
       & without (Normal ∷ Break ∷ Continue ∷ []) (record inner { demands = inner.demands ++ back })
   rule_of scope in_loop reached pc (Leave at taken) =
       let may_stand : Bool = not (has_exit (Break ∷ Continue ∷ []) taken) || in_loop in
-      record (ending [] pc) { faults = fault_unless may_stand OutsideLoop at } & own reached at (taken ∷ []) pc []
-  rule_of scope in_loop reached pc (ReturnWith at (Some e)) =
-      let q : Join = pc ++ raise_label scope e in
-      own reached at (Return ∷ thrown_exits (raises e)) q (demand scope.program at 10 (q ++ value_label scope e) (ToValue scope.number))
-  rule_of scope in_loop reached pc (ReturnWith at None) = own reached at (Return ∷ []) pc []
+      record (ending [] pc) { faults = fault_unless may_stand OutsideLoop at } & own reached at [] (taken ∷ []) pc []
+  rule_of scope in_loop reached pc (ReturnWith at (Some e)) = own_value scope reached pc at 10 Return e (ToValue scope.number)
+  rule_of scope in_loop reached pc (ReturnWith at None) = own reached at [] (Return ∷ []) pc []
   rule_of scope in_loop reached pc (Try at block handlers) =
       let inner : Judgement = whole pc (rule_of_block scope in_loop true pc block) in
-      own reached at [] pc [] & without (taken_by handlers) inner & rule_of_handlers scope in_loop inner.exits inner.labels handlers
-  rule_of scope in_loop reached pc (Nested at block) = own reached at [] pc [] & whole pc (rule_of_block scope in_loop true pc block)
+      own reached at [] [] pc [] & without (taken_by handlers) inner & rule_of_handlers scope in_loop inner.exits inner.labels handlers
+  rule_of scope in_loop reached pc (Nested at block) = own reached at [] [] pc [] & whole pc (rule_of_block scope in_loop true pc block)
 
   pub rule_of_block : Scope → (in_loop reached : Bool) → (pc : Join) → Block → Judgement
   rule_of_block scope in_loop reached pc Empty = ending (Normal ∷ []) pc
@@ -252,7 +250,7 @@ procedure_judgement scope =
     let begin : Join = one (label_of scope.program (ToBegin scope.number)) in
     let inner : Judgement = whole begin (rule_of_block scope false true begin (here scope).body) in
     let valued : Bool = not (is_some (here scope).result && has_exit inner.exits Normal) in
-    let declared : Bool = list_all (has_exit (Normal ∷ Return ∷ thrown_exits (declared_by (here scope).throws))) inner.exits in
+    let declared : Bool = list_all (has_exit (Normal ∷ Return ∷ map Throw (declared_by (here scope).throws))) inner.exits in
     record inner {
       demands = inner.demands ++ exit_demands scope inner.exits inner.labels;
       faults = inner.faults ++ fault_unless valued NoValueReturned (here scope).at ++ fault_unless declared Undeclared (here scope).at;

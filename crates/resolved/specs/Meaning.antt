@@ -35,9 +35,6 @@ pub data Outcome : Type 0 where
 abbrev pub normally : SourceState → Outcome
 normally s = Ended Normal None s
 
-abbrev pub thrown : (exception : ℕ) → SourceState → Outcome
-thrown exception s = Ended (Throw exception) None s
-
 -- goes on after a normal exit, with the value that a call has returned; every other exit stays
 abbrev pub onward : Outcome → (Option Value → SourceState → Outcome) → Outcome
 onward (Ended Normal returned s) next = next returned s
@@ -46,7 +43,7 @@ onward other next = other
 -- goes on with what was evaluated; an exception is the exit
 abbrev pub evaluated : {A : Type 0} → Evaluated A → SourceState → (A → Outcome) → Outcome
 evaluated (Yields v) s next = next v
-evaluated (Raises exception) s next = thrown exception s
+evaluated (Raises exception) s next = Ended (Throw exception) None s
 
 -- goes on after the body of a loop where that ended normally or by `continue`; `break` is the normal exit of the loop, and every
 -- other exit stays
@@ -60,8 +57,7 @@ looped other again = other
 -- the run is out of fuel
 abbrev pub fuel : (k : ℕ) → (SourceState → Evaluated Value) → (SourceState → Outcome) → SourceState → Outcome
 fuel zero condition body s = evaluated (condition s) s (λ v. if truth_in v then Stopped OutOfFuel s else normally s)
-fuel (suc k) condition body s =
-    evaluated (condition s) s (λ v. if truth_in v then looped (body s) (fuel k condition body) else normally s)
+fuel (suc k) condition body s = evaluated (condition s) s (λ v. if truth_in v then looped (body s) (fuel k condition body) else normally s)
 
 -- hands an exception to the handlers; every other exit stays
 abbrev pub caught : Outcome → (ℕ → SourceState → Outcome) → Outcome
@@ -77,9 +73,8 @@ given_to (Some x) (Some v) s = with_cells s x (v ∷ [])
 
 -- takes the next number of an input, or raises `End`
 abbrev pub received : List ℤ → (channel : ℕ) → Option Variable → SourceState → Outcome
-received [] channel target s = thrown END s
-received (z ∷ rest) channel target s =
-    normally (given_to target (Some (Number z)) (record s { inputs = updated s.inputs channel rest }))
+received [] channel target s = Ended (Throw END) None s
+received (z ∷ rest) channel target s = normally (given_to target (Some (Number z)) (record s { inputs = updated s.inputs channel rest }))
 
 -- what a call comes to by what the procedure's body does: a return is the normal exit of the call, and the caller has its frame again
 abbrev pub leaving : (SourceState → SourceState) → Outcome → Outcome
@@ -96,8 +91,7 @@ Calls = (procedure : ℕ) → List Value → SourceState → Outcome
 abbrev mutual
   pub statement_meaning : Calls → (k : ℕ) → Statement → SourceState → Outcome
   statement_meaning calls k (Assign at x e) s = evaluated (value_of s e) s (λ v. normally (with_cells s x (v ∷ [])))
-  statement_meaning calls k (Clear at slot) s =
-      normally (with_cells s (Local slot) (map (λ v. zero_value (base_of v)) (s.locals slot)))
+  statement_meaning calls k (Clear at slot) s = normally (with_cells s (Local slot) (map (λ v. zero_value (base_of v)) (s.locals slot)))
   statement_meaning calls k (Store at array length index e) s =
       evaluated (value_of s index) s (λ v.
       evaluated (value_of s e) s (λ w.
@@ -116,18 +110,16 @@ abbrev mutual
   statement_meaning calls k (Leave at exit) s = Ended exit None s
   statement_meaning calls k (ReturnWith at None) s = Ended Return None s
   statement_meaning calls k (ReturnWith at (Some e)) s = evaluated (value_of s e) s (λ v. Ended Return (Some v) s)
-  statement_meaning calls k (Try at block handlers) s =
-      caught (block_meaning calls k block s) (handlers_meaning calls k handlers)
+  statement_meaning calls k (Try at block handlers) s = caught (block_meaning calls k block s) (handlers_meaning calls k handlers)
   statement_meaning calls k (Nested at block) s = block_meaning calls k block s
 
   pub block_meaning : Calls → (k : ℕ) → Block → SourceState → Outcome
   block_meaning calls k Empty s = normally s
-  block_meaning calls k (Then statement rest) s =
-      onward (statement_meaning calls k statement s) (λ returned. block_meaning calls k rest)
+  block_meaning calls k (Then statement rest) s = onward (statement_meaning calls k statement s) (λ returned. block_meaning calls k rest)
 
   -- the first handler of the exception; without one it goes on
   pub handlers_meaning : Calls → (k : ℕ) → Handlers → (exception : ℕ) → SourceState → Outcome
-  handlers_meaning calls k NoMore exception s = thrown exception s
+  handlers_meaning calls k NoMore exception s = Ended (Throw exception) None s
   handlers_meaning calls k (Catch at handled body rest) exception s =
       if exception == handled then block_meaning calls k body s else handlers_meaning calls k rest exception s
 
@@ -178,6 +170,9 @@ abbrev pub sent_by : Program → World → (k : ℕ) → List Pair
 sent_by program world k = (state_after (run_within frame_limit program world k)).sent
 
 -- ---- parts, by which proofs speak of them
+
+abbrev pub thrown : (exception : ℕ) → SourceState → Outcome
+thrown exception s = Ended (Throw exception) None s
 
 -- goes on after a normal exit, and gives the value of a call to its target
 abbrev pub after : Outcome → (SourceState → Outcome) → Outcome

@@ -73,8 +73,7 @@ abbrev pub channel_at : Program → ℕ → ChannelEntry
 channel_at program channel = slice_index_or program.channels channel (record { direction = Output; name = []; label = [] })
 
 abbrev pub global_at : Program → ℕ → GlobalEntry
-global_at program n =
-    slice_index_or program.globals n (record { name = []; base = Int; size = None; label = []; first = Number (pos 0) })
+global_at program n = slice_index_or program.globals n (record { name = []; base = Int; size = None; label = []; first = Number (pos 0) })
 
 abbrev pub slot_at : ProcedureEntry → ℕ → SlotEntry
 slot_at procedure n = slice_index_or procedure.slots n (record { base = Int; size = None; written = None; at = 0; name = [] })

@@ -1,6 +1,7 @@
 -- The world in which a program runs, its state, and the value of an expression in a state.
 -- Source: our own; the big-step meaning of expressions of textbooks, with exceptions.
 use Rattle.common.specs.Functions.{updated}
+use Rattle.common.specs.Results.{◌>>=◌}
 use Rattle.std.specs.Prelude.{ℕ, List, [], ◌∷◌, ℤ, pos, map, slice_index_or, slice_set, if◌then◌else◌}
 use Rattle.common.specs.declared.sent.Pair.{Pair}
 use Rattle.resolved.specs.declared.expression.Variable.{Variable}
@@ -8,7 +9,7 @@ use Rattle.resolved.specs.declared.expression.Variable.TheVariants.{Global, Loca
 use Rattle.resolved.specs.declared.expression.Value.{Value}
 use Rattle.resolved.specs.declared.expression.Value.TheVariants.{Number, Truth}
 use Rattle.resolved.specs.Tree.{Expression, Integer, Logical, Read, Element, Unary, Binary, Short}
-use Rattle.resolved.specs.Value.{Evaluated, Yields, then_with, literal_number, zero_value, base_of, prefix_value, operator_value, decides, checked_index}
+use Rattle.resolved.specs.Value.{Evaluated, Yields, literal_number, zero_value, base_of, prefix_value, operator_value, decides, checked_index}
 
 -- a world: the numbers of each input channel
 abbrev pub World : Type 0
@@ -40,24 +41,24 @@ abbrev pub value_of : SourceState → Expression → Evaluated Value
 value_of s (Integer n) = Yields (Number (literal_number n))
 value_of s (Logical b) = Yields (Truth b)
 value_of s (Read x) = Yields (cell_at (cells s x) 0)
-value_of s (Element array length index) =
-    then_with (value_of s index) (λ v.
-    then_with (checked_index v length) (λ i.
-    Yields (cell_at (cells s array) i)))
-value_of s (Unary prefix e) = then_with (value_of s e) (λ v. Yields (prefix_value prefix v))
-value_of s (Binary operator d e) =
-    then_with (value_of s d) (λ v.
-    then_with (value_of s e) (λ w.
-    operator_value operator v w))
-value_of s (Short connective d e) = then_with (value_of s d) (λ v. if decides connective v then Yields v else value_of s e)
+value_of s (Element array length index) = do
+  v ← value_of s index
+  i ← checked_index v length
+  Yields (cell_at (cells s array) i)
+value_of s (Unary prefix e) = value_of s e >>= λ v. Yields (prefix_value prefix v)
+value_of s (Binary operator d e) = do
+  v ← value_of s d
+  w ← value_of s e
+  operator_value operator v w
+value_of s (Short connective d e) = value_of s d >>= λ v. if decides connective v then Yields v else value_of s e
 
 -- the values of arguments, from the left
 abbrev pub values_of : SourceState → List Expression → Evaluated (List Value)
 values_of s [] = Yields []
-values_of s (e ∷ rest) =
-    then_with (value_of s e) (λ v.
-    then_with (values_of s rest) (λ vs.
-    Yields (v ∷ vs)))
+values_of s (e ∷ rest) = do
+  v ← value_of s e
+  vs ← values_of s rest
+  Yields (v ∷ vs)
 
 -- ---- parts of the meaning of statements, by which proofs speak of them
 

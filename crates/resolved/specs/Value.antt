@@ -2,7 +2,9 @@
 -- Source: our own language; whole numbers reduced to 32 bits.
 use Rattle.common.specs.Functions.{same_truth}
 use Rattle.common.specs.Operators.{wrapped, negated, computed, compared, matched}
-use Rattle.std.specs.Prelude.{ℕ, Bool, false, not, ℤ, pos, negsuc, nat_abs, nat_lt, Option, Some, None, if◌then◌else◌}
+use Rattle.common.specs.Results.{◌>>=◌}
+use Rattle.std.specs.Prelude.{ℕ, Bool, false, not, ℤ, pos, negsuc, nat_abs, nat_lt, Option, option_map, ok_or, Result, if◌then◌else◌}
+pub use Rattle.std.specs.Prelude.{Ok as Yields, Err as Raises}
 use Rattle.common.specs.declared.exceptions.TheConstants.{ARITH, BOUNDS}
 use Rattle.common.specs.declared.base_type.BaseType.{BaseType}
 use Rattle.common.specs.declared.base_type.BaseType.TheVariants.{Int, Boolean}
@@ -15,15 +17,9 @@ use Rattle.resolved.specs.declared.expression.Operator.TheVariants.{Compute, Com
 use Rattle.common.specs.declared.operator.Connective.{Connective}
 use Rattle.common.specs.declared.operator.Connective.TheVariants.{And, Or}
 
--- what evaluation comes to: a result, or the exception that was raised
-pub data Evaluated (A : Type 0) : Type 0 where
-  Yields : A → Evaluated A
-  Raises : (exception : ℕ) → Evaluated A
-
--- goes on with a result; an exception stays
-abbrev pub then_with : {A B : Type 0} → Evaluated A → (A → Evaluated B) → Evaluated B
-then_with (Yields v) next = next v
-then_with (Raises exception) next = Raises exception
+-- what evaluation comes to: it yields a result, or raises an exception
+abbrev pub Evaluated : Type 0 → Type 0
+Evaluated A = Result A ℕ
 
 -- the number that a literal means
 abbrev pub literal_number : ℕ → ℤ
@@ -52,14 +48,9 @@ abbrev pub prefix_value : Prefix → Value → Value
 prefix_value Negate v = Number (negated (number_in v))
 prefix_value Not v = Truth (not (truth_in v))
 
--- a number, or `Arith` where there is none
-abbrev pub or_arith : Option ℤ → Evaluated Value
-or_arith None = Raises ARITH
-or_arith (Some n) = Yields (Number n)
-
--- an operator on both its operands
+-- an operator on both its operands; where they have no result, it raises `Arith`
 abbrev pub operator_value : Operator → Value → Value → Evaluated Value
-operator_value (Compute operator) v w = or_arith (computed operator (number_in v) (number_in w))
+operator_value (Compute operator) v w = ok_or (option_map Number (computed operator (number_in v) (number_in w))) ARITH
 operator_value (Compare comparison) v w = Yields (Truth (compared comparison (number_in v) (number_in w)))
 operator_value (Match sameness) v w = Yields (Truth (matched sameness (same_truth (truth_in v) (truth_in w))))
 
@@ -76,3 +67,13 @@ in_range (negsuc i) length = false
 -- an index that is in range, or `Bounds`
 abbrev pub checked_index : Value → ℕ → Evaluated ℕ
 checked_index v length = if in_range (number_in v) length then Yields (nat_abs (number_in v)) else Raises BOUNDS
+
+-- ---- parts, by which proofs speak of them
+
+-- goes on with a result; an exception stays
+abbrev pub then_with : {A B : Type 0} → Evaluated A → (A → Evaluated B) → Evaluated B
+then_with first next = first >>= next
+
+-- a number, or `Arith` where there is none
+abbrev pub or_arith : Option ℤ → Evaluated Value
+or_arith found = ok_or (option_map Number found) ARITH

@@ -2,6 +2,7 @@
 ghost use Rattle.lattices.specs.Constraints.{FitsAll, IsRefusedAt, StandsFor, reported_gathered, reported_steps};
 ghost use Rattle.labels.specs.LabelLattice.{label_lattice};
 ghost use Rattle.labels.specs.Label.{Label, ReaderPolicy};
+ghost use Rattle.resolved.specs.BitUse.{expression_uses_bits, procedures_use_bits, statement_uses_bits, uses_bits};
 ghost use Rattle.resolved.specs.ExitFaults.{procedure_faults, statement_faults};
 ghost use Rattle.resolved.specs.Exits.{statement_exits};
 ghost use Rattle.resolved.specs.Flow.{AreGathered, AreLeast, FlowBothWays, Gathered, IsFlowChain, IsProgramRefused, IsUncovered, reported_step};
@@ -12,6 +13,7 @@ ghost use Rattle.resolved.specs.Precise.{IsAcceptable, handler_of_one, raising_a
 ghost use Rattle.resolved.specs.Program.{Program};
 ghost use Rattle.resolved.specs.Tree.{Statement};
 ghost use Rattle.resolved.specs.declared.statement.Exit.{Exit};
+ghost use Rattle.std.specs.List.{list_any};
 ghost use Rattle.std.specs.Prelude.{Bool, Contains, List, flat_map, ℕ, ◌≡◌, ◌↔◌, ◌⊎◌};
 
 /// In a state that fits the tables, an expression of a base type has a value of that type or raises an exception; the meaning of
@@ -58,7 +60,7 @@ pub fn gathered_constraints_decide()
 {}
 
 /// What code and proofs walk apart is what the rules say: the possible exits of a statement, the labels of its exits, its demands and
-/// its faults, and so the demands and the faults of a program.
+/// its faults, and whether it uses an operator on bits; and so the demands, the faults and the bits of a program.
 pub fn parts_are_those_of_the_rules()
     ensures exits { (scope : Scope) (in_loop reached : Bool) (pc : Join) (statement : Statement) →
         (rule_of scope in_loop reached pc statement).exits
@@ -72,10 +74,14 @@ pub fn parts_are_those_of_the_rules()
     ensures faults { (scope : Scope) (in_loop reached : Bool) (pc : Join) (statement : Statement) →
         (rule_of scope in_loop reached pc statement).faults
         ≡ statement_faults scope.program in_loop reached statement }
+    ensures bits { (scope : Scope) (in_loop reached : Bool) (pc : Join) (statement : Statement) →
+        list_any expression_uses_bits (rule_of scope in_loop reached pc statement).expressions
+        ≡ statement_uses_bits statement }
     ensures all_demands { (program : Program) →
         program_demands program ≡ demands_from program 0 program.procedures }
     ensures all_faults { (program : Program) →
         exit_faults program ≡ flat_map (procedure_faults program) program.procedures }
+    ensures all_bits { (program : Program) → uses_bits program ≡ procedures_use_bits program.procedures }
 {}
 
 /// What an over-strict rule would refuse is accepted: a short circuit whose right side raises nothing and a send after it; a call with

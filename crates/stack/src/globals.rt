@@ -114,8 +114,9 @@ fn add_first(cells: &mut Vec<Cell>, global: Variable) -> Result<(), AllocError>
     ensures { OnOk result (cells.new.items ≡ cells.old.items ++ first_global global) }
 {
     match global {
-        Variable::Int(number) => repeat(cells, Cell::Int(number), 1),
-        Variable::Boolean(truth) => repeat(cells, Cell::Bool(truth), 1),
-        Variable::Array(kind, count) => repeat(cells, Cell::zero_of(kind), count as usize),
+        Variable::Int(number) => cells.push(Cell::Int(number))?,
+        Variable::Boolean(truth) => cells.push(Cell::Bool(truth))?,
+        Variable::Array(kind, count) => repeat(cells, Cell::zero_of(kind), count as usize)?,
     }
+    Ok(())
 }

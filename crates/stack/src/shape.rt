@@ -1,7 +1,7 @@
 //! The cells of slots that lie one after another.
 
-ghost use Rattle.stack.specs.Slab.{cells_in, cell_index_in, total};
-ghost use Rattle.std.specs.Prelude.{IfOk, IsTrue, OnErr, OnOk, Some, is_some, length, map, replicate, slice_get, take, ◌++◌, ◌<◌, ◌^◌, ◌≡◌, ◌≤◌};
+ghost use Rattle.stack.specs.Slab.{cells_in, cell_index_in, spans_in, spans_of, total};
+ghost use Rattle.std.specs.Prelude.{IfOk, IsTrue, OnErr, OnOk, Some, is_some, length, map, replicate, slice_get, take, ◌+◌, ◌++◌, ◌<◌, ◌^◌, ◌≡◌, ◌≤◌};
 
 use common::BaseType;
 use modules::{Cell, Slot};
@@ -15,41 +15,42 @@ pub struct CellRange {
     pub count: usize,
 }
 
+// The spans of the slots from the first array on: that of an array with this many cells and of this many scalars after it, which need no
+// memory, or any.
+#[derive(Debug, Drop)]
+enum Spans {
+    OfArray(usize, usize),
+    Listed(Vec<CellRange>),
+}
+
 /// How many cells each of the slots has that lie one after another. Of the slots before the first array only the number is kept: each is a
 /// scalar, whose cell has its own number as an index.
 #[derive(Debug, Drop)]
 pub struct Shape {
     scalars: usize,
     // Those from the first array on.
-    spans: Vec<CellRange>,
+    spans: Spans,
 }
 
 impl Model for Shape {
-    ghost use Rattle.stack.specs.Slab.{IsShape, counts_in};
+    ghost use Rattle.stack.specs.Slab.{IsShape, counts_in, spans_in};
     ghost use Rattle.std.specs.Prelude.{List, ℕ};
 
     ghost Value = { List ℕ };
 
-    ghost view = { λ s. counts_in s.scalars s.spans.items };
+    ghost view = { λ s. counts_in s.scalars (spans_in s.scalars s.spans) };
 
-    ghost invariant = { λ s. IsShape s.scalars s.spans.items };
+    ghost invariant = { λ s. IsShape s.scalars (spans_in s.scalars s.spans) };
 }
 
 impl Shape {
-    /// The shape of these slots. It takes no memory where they are scalars. Precondition: they have fewer than 2^63 cells.
+    /// The shape of these slots. It takes no memory where one of them at most is an array. Precondition: they have fewer than 2^63 cells.
     pub fn of(alloc: Global, slots: &[Slot]) -> Result<Shape, AllocError>
         requires { total (map cells_in slots.now) < 2 ^ 63 }
         ensures { IfOk result (λ shape. shape ≡ map cells_in slots.now) }
     {
         let scalars = count_scalars(slots);
-        let others = &slots[scalars..];
-        let mut spans = Vec::with_capacity(alloc, others.len())?;
-        let mut start = scalars;
-        for slot in others {
-            let count = count_of(*slot);
-            spans.push(CellRange { start, count })?;
-            start += count;
-        }
+        let spans = spans_of(alloc, scalars, &slots[scalars..])?;
         Ok(Shape { scalars, spans })
     }
 
@@ -57,9 +58,12 @@ impl Shape {
     pub fn count(&self) -> usize
         ensures { result ≡ total self.now }
     {
-        match self.spans.last() {
-            Some(span) => span.start + span.count,
-            None => self.scalars,
+        match &self.spans {
+            Spans::OfArray(count, scalars) => self.scalars + *count + *scalars,
+            Spans::Listed(spans) => match spans.last() {
+                Some(span) => span.start + span.count,
+                None => self.scalars,
+            },
         }
     }
 
@@ -71,7 +75,7 @@ impl Shape {
         if slot < self.scalars {
             return if index == 0 { Some(slot) } else { None };
         }
-        let Some(span) = span_at(&self.spans, slot - self.scalars) else {
+        let Some(span) = span_at(self.scalars, &self.spans, slot - self.scalars) else {
             return None;
         };
         if index < span.count {
@@ -89,10 +93,13 @@ impl Shape {
     {
         let slot = slot as usize;
         if slot < self.scalars {
-            slot
-        } else {
-            self.spans[slot - self.scalars].start
+            return slot;
         }
+        let Some(span) = span_at(self.scalars, &self.spans, slot - self.scalars) else {
+            // There is such a slot.
+            unreachable!();
+        };
+        span.start
     }
 }
 
@@ -111,8 +118,56 @@ fn count_scalars(slots: &[Slot]) -> usize
     count
 }
 
-// The span of a number, if it is there.
-fn span_at(spans: &[CellRange], number: usize) -> Option<CellRange>
+// The spans of slots after this many scalars.
+fn spans_of(alloc: Global, scalars: usize, slots: &[Slot]) -> Result<Spans, AllocError>
+    requires { scalars + total (map cells_in slots.now) < 2 ^ 63 }
+    ensures { IfOk result (λ spans. spans_in scalars spans
+        ≡ spans_of scalars (map cells_in slots.now)) }
+{
+    if let Some((first, others)) = slots.split_first() {
+        let after = count_scalars(others);
+        if after == others.len() {
+            return Ok(Spans::OfArray(count_of(*first), after));
+        }
+    }
+    let mut spans = Vec::with_capacity(alloc, slots.len())?;
+    let mut start = scalars;
+    for slot in slots {
+        let count = count_of(*slot);
+        spans.push(CellRange { start, count })?;
+        start += count;
+    }
+    Ok(Spans::Listed(spans))
+}
+
+// The span of a number, if it is there. The first one starts at an index.
+#[inline(always)]
+fn span_at(start: usize, spans: &Spans, number: usize) -> Option<CellRange>
+    requires { start + total (map (λ span. span.count) (spans_in start spans.now)) < 2 ^ 64 }
+    ensures { result ≡ slice_get (spans_in start spans.now) number }
+{
+    match spans {
+        Spans::OfArray(count, scalars) => {
+            if number == 0 {
+                return Some(CellRange {
+                    start,
+                    count: *count,
+                });
+            }
+            if number > *scalars {
+                return None;
+            }
+            Some(CellRange {
+                start: start + *count + (number - 1),
+                count: 1,
+            })
+        }
+        Spans::Listed(spans) => listed_at(spans, number),
+    }
+}
+
+// A span of a list by its number, if it is there.
+fn listed_at(spans: &[CellRange], number: usize) -> Option<CellRange>
     ensures { result ≡ slice_get spans.now number }
 {
     spans.get(number).copied()

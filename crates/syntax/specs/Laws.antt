@@ -1,14 +1,13 @@
 -- Laws of the spelling of programs.
 -- Source: our own.
-use Rattle.std.specs.Prelude.{◌≡◌, ℕ, ◌≤◌, Bool, List, [], ◌∷◌, length, map, Some, All, Contains}
+use Rattle.std.specs.Prelude.{◌≡◌, ℕ, ◌≤◌, Bool, List, [], ◌∷◌, length, slice_index_or, map, Some, All, Contains}
 use Rattle.lexer.specs.Listing.{IsSpelled}
 use Rattle.lexer.specs.Terminal.{Terminal, IsTerminated}
 use Rattle.lexer.specs.TokenKind.{TokenKind, word_of}
 use Rattle.syntax.specs.Form.{Form, table}
-use Rattle.syntax.specs.Grammar.{SpellsProgram, Spelled, base, direction, truth, signs, operators_of, lines}
+use Rattle.syntax.specs.Grammar.{SpellsProgram, Spelled, base, direction, truth, signs, lines}
 use Rattle.syntax.specs.Nesting.{IsNested}
 use Rattle.syntax.specs.Nodes.{program_nodes}
-use Rattle.syntax.specs.declared.line.Line.{Line}
 use Rattle.common.specs.declared.base_type.BaseType.{BaseType}
 use Rattle.syntax.specs.declared.tree.BinaryOperator.{BinaryOperator}
 use Rattle.common.specs.declared.operator.Prefix.{Prefix}
@@ -48,10 +47,9 @@ SpelledIsWritten =
 abbrev pub SpellsAlone : {A : Type 0} → Form (ℕ × A) → Terminal → A → Type 0
 SpellsAlone F token tree = Spelled F 0 0 (token ∷ []) (token.start, tree) []
 
--- the grammar leaves nothing out: it has each line, and each operator, base type, truth value and direction has a token
+-- the grammar leaves nothing out: each operator, base type, truth value and direction has a token
 pub record EachIsThere : Type 0 where
-  pub line : (line : Line) → Contains lines line
-  pub binary : (operator : BinaryOperator) → (line : Line) × (kind : TokenKind) × (table (operators_of line) (word_of kind) ≡ Some operator)
+  pub binary : (operator : BinaryOperator) → (line : ℕ) × (kind : TokenKind) × (table (slice_index_or lines line []) (word_of kind) ≡ Some operator)
   pub unary : (operator : Prefix) → (kind : TokenKind) × (table signs (word_of kind) ≡ Some operator)
   pub base : (tree : BaseType) → (token : Terminal) × SpellsAlone base token tree
   pub truth : (tree : Bool) → (token : Terminal) × SpellsAlone truth token tree

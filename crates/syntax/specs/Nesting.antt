@@ -20,7 +20,7 @@ IsNestedOptionalExpression room None = Unit {0}
 IsNestedOptionalExpression room (Some value) = IsNestedExpression room value
 
 abbrev pub IsNestedCall : (room : ℕ) → CallTree → Type 0
-IsNestedCall room call = (0 < room) × All (IsNestedExpression (pred room)) call.arguments
+IsNestedCall room call = (0 < room) × All (IsNestedExpression (pred room)) call.1
 
 abbrev pub IsNestedRight : (room : ℕ) → RightTree → Type 0
 IsNestedRight room (ReceivedTree at channel) = Unit {0}
@@ -59,9 +59,9 @@ abbrev mutual
   AreNestedCatches room (CatchThen at exception body rest) = IsNestedBlock room body × AreNestedCatches room rest
 
 abbrev pub IsNestedItem : (room : ℕ) → ItemTree → Type 0
-IsNestedItem room (ChannelItem channel) = Unit {0}
+IsNestedItem room (ChannelItem at direction label name) = Unit {0}
 IsNestedItem room (ExceptionItem at name) = Unit {0}
-IsNestedItem room (GlobalItem global) = Unit {0}
+IsNestedItem room (GlobalItem at base label name value) = Unit {0}
 IsNestedItem room (ProcedureItem procedure) = IsNestedBlock room procedure.body
 
 abbrev pub IsNested : (room : ℕ) → ProgramTree → Type 0

@@ -3,7 +3,7 @@
 -- numbers of nodes stay small where texts do.
 -- Source: our own.
 use Rattle.std.specs.Prelude.{ℕ, ◌+◌, Option, None, Some, length, sum_by}
-use Rattle.syntax.specs.Tree.{ComponentTree, PolicyComponent, VariableComponent, LabelTree, ExpressionTree, IntegerTree, TruthTree, VariableTree, ElementTree, UnaryTree, BinaryTree, CallTree, RightTree, ReceivedTree, CalledTree, ValueTree, StatementTree, DeclareTree, DeclareArrayTree, AssignTree, AssignElementTree, CallTree', ReceiveTree, SendTree, IfTree, WhileTree, BreakTree, ContinueTree, ThrowTree, ReturnTree, TryTree, NestedTree, BlockTree, BlockOf, StatementTrees, NoStatement, StatementThen, CatchTrees, NoCatch, CatchThen, WrittenResultTree, NothingTree, ResultTree, ParameterTree, ThrownTree, ProcedureTree, ItemTree, ChannelItem, ExceptionItem, GlobalItem, ProcedureItem, ProgramTree}
+use Rattle.syntax.specs.Tree.{ComponentTree, PolicyComponent, VariableComponent, LabelTree, ExpressionTree, IntegerTree, TruthTree, VariableTree, ElementTree, UnaryTree, BinaryTree, CallTree, RightTree, ReceivedTree, CalledTree, ValueTree, StatementTree, DeclareTree, DeclareArrayTree, AssignTree, AssignElementTree, CallTree', ReceiveTree, SendTree, IfTree, WhileTree, BreakTree, ContinueTree, ThrowTree, ReturnTree, TryTree, NestedTree, BlockTree, BlockOf, StatementTrees, NoStatement, StatementThen, CatchTrees, NoCatch, CatchThen, WrittenResultTree, ParameterTree, ThrownTree, ProcedureTree, ItemTree, ChannelItem, ExceptionItem, GlobalItem, ProcedureItem, ProgramTree}
 
 -- a policy is a node beside its owner and its readers, a variable one together with its name
 abbrev pub component_nodes : ComponentTree → ℕ
@@ -30,7 +30,7 @@ optional_expression_nodes None = 0
 optional_expression_nodes (Some value) = expression_nodes value
 
 abbrev pub call_nodes : CallTree → ℕ
-call_nodes call = 2 + sum_by expression_nodes call.arguments
+call_nodes call = 2 + sum_by expression_nodes call.1
 
 abbrev pub right_nodes : RightTree → ℕ
 right_nodes (ReceivedTree at channel) = 2
@@ -68,23 +68,23 @@ abbrev mutual
   catches_nodes (CatchThen at exception body rest) = 2 + (block_nodes body + catches_nodes rest)
 
 abbrev pub written_result_nodes : WrittenResultTree → ℕ
-written_result_nodes NothingTree = 0
-written_result_nodes (ResultTree base label) = label_nodes label
+written_result_nodes None = 0
+written_result_nodes (Some (base, label)) = label_nodes label
 
 abbrev pub parameter_nodes : ParameterTree → ℕ
 parameter_nodes parameter = 2 + label_nodes parameter.label
 
 abbrev pub thrown_nodes : ThrownTree → ℕ
-thrown_nodes thrown = 2 + label_nodes thrown.label
+thrown_nodes thrown = 2 + label_nodes thrown.1
 
 abbrev pub procedure_nodes : ProcedureTree → ℕ
 procedure_nodes procedure =
     2 + written_result_nodes procedure.result + optional_label_nodes procedure.begin + sum_by parameter_nodes procedure.parameters + optional_label_nodes procedure.end + sum_by thrown_nodes procedure.throws + block_nodes procedure.body
 
 abbrev pub item_nodes : ItemTree → ℕ
-item_nodes (ChannelItem channel) = 2 + label_nodes channel.label
+item_nodes (ChannelItem at direction label name) = 2 + label_nodes label
 item_nodes (ExceptionItem at name) = 2
-item_nodes (GlobalItem global) = 3 + label_nodes global.label
+item_nodes (GlobalItem at base label name value) = 3 + label_nodes label
 item_nodes (ProcedureItem procedure) = procedure_nodes procedure
 
 abbrev pub program_nodes : ProgramTree → ℕ

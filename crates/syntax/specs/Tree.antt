@@ -56,27 +56,21 @@ pub data ExpressionTree : Type 0 where
   UnaryTree : (at : ℕ) → Prefix → ExpressionTree → ExpressionTree
   BinaryTree : (at : ℕ) → BinaryOperator → ExpressionTree → ExpressionTree → ExpressionTree
 
-pub record CallTree : Type 0 where
-  pub procedure : NameTree
-  pub arguments : List ExpressionTree
-
+-- what is assigned; a call is the name of a procedure with the arguments
 pub data RightTree : Type 0 where
   ReceivedTree : (at : ℕ) → NameTree → RightTree
-  CalledTree : CallTree → RightTree
+  CalledTree : NameTree × List ExpressionTree → RightTree
   ValueTree : ExpressionTree → RightTree
 
-pub record SizeTree : Type 0 where
-  pub at : ℕ
-  pub size : ℕ
-
--- statements, and what holds them; lists of them are types of their own, since they hold one another
+-- statements, and what holds them; lists of them are types of their own, since they hold one another; an array has the place of its
+-- size and the size
 mutual
   pub data StatementTree : Type 0 where
     DeclareTree : (at : ℕ) → BaseType → Option LabelTree → NameTree → RightTree → StatementTree
-    DeclareArrayTree : (at : ℕ) → BaseType → Option LabelTree → NameTree → SizeTree → StatementTree
+    DeclareArrayTree : (at : ℕ) → BaseType → Option LabelTree → NameTree → (size : ℕ × ℕ) → StatementTree
     AssignTree : NameTree → RightTree → StatementTree
     AssignElementTree : NameTree → ExpressionTree → ExpressionTree → StatementTree
-    CallTree' : CallTree → StatementTree
+    CallTree' : NameTree × List ExpressionTree → StatementTree
     ReceiveTree : (at : ℕ) → NameTree → StatementTree
     SendTree : (at : ℕ) → NameTree → ExpressionTree → StatementTree
     IfTree : (at : ℕ) → ExpressionTree → BlockTree → (otherwise : BlockTree) → StatementTree
@@ -108,30 +102,13 @@ abbrev pub catches_of : List (ℕ × NameTree × BlockTree) → CatchTrees
 catches_of [] = NoCatch
 catches_of ((at, exception, body) ∷ rest) = CatchThen at exception body (catches_of rest)
 
-pub record ChannelTree : Type 0 where
-  pub at : ℕ
-  pub direction : Direction
-  pub label : LabelTree
-  pub name : NameTree
-
 pub data ConstantTree : Type 0 where
   IntegerConstant : (at : ℕ) (negative : Bool) (value : ℕ) → ConstantTree
   TruthConstant : (at : ℕ) → Bool → ConstantTree
 
 pub data GlobalValueTree : Type 0 where
   ScalarTree : ConstantTree → GlobalValueTree
-  ArrayTree : SizeTree → GlobalValueTree
-
-pub record GlobalTree : Type 0 where
-  pub at : ℕ
-  pub base : BaseType
-  pub label : LabelTree
-  pub name : NameTree
-  pub value : GlobalValueTree
-
-pub data WrittenResultTree : Type 0 where
-  NothingTree : WrittenResultTree
-  ResultTree : BaseType → LabelTree → WrittenResultTree
+  ArrayTree : (size : ℕ × ℕ) → GlobalValueTree
 
 pub record ParameterTree : Type 0 where
   pub at : ℕ
@@ -139,24 +116,21 @@ pub record ParameterTree : Type 0 where
   pub label : LabelTree
   pub name : NameTree
 
-pub record ThrownTree : Type 0 where
-  pub name : NameTree
-  pub label : LabelTree
-
+-- a procedure; what is thrown has a label each
 pub record ProcedureTree : Type 0 where
   pub at : ℕ
-  pub result : WrittenResultTree
+  pub result : Option (BaseType × LabelTree)
   pub name : NameTree
   pub begin : Option LabelTree
   pub parameters : List ParameterTree
   pub end : Option LabelTree
-  pub throws : List ThrownTree
+  pub throws : List (NameTree × LabelTree)
   pub body : BlockTree
 
 pub data ItemTree : Type 0 where
-  ChannelItem : ChannelTree → ItemTree
+  ChannelItem : (at : ℕ) → Direction → LabelTree → NameTree → ItemTree
   ExceptionItem : (at : ℕ) → NameTree → ItemTree
-  GlobalItem : GlobalTree → ItemTree
+  GlobalItem : (at : ℕ) → BaseType → LabelTree → NameTree → GlobalValueTree → ItemTree
   ProcedureItem : ProcedureTree → ItemTree
 
 pub record ProgramTree : Type 0 where
@@ -178,7 +152,7 @@ statement_at (DeclareTree at base label name value) = at
 statement_at (DeclareArrayTree at base label name size) = at
 statement_at (AssignTree target value) = target.at
 statement_at (AssignElementTree array index value) = array.at
-statement_at (CallTree' call) = call.procedure.at
+statement_at (CallTree' call) = call.0.at
 statement_at (ReceiveTree at channel) = at
 statement_at (SendTree at channel value) = at
 statement_at (IfTree at condition body otherwise) = at
@@ -191,14 +165,47 @@ statement_at (TryTree at body catches) = at
 statement_at (NestedTree body) = block_at body
 
 abbrev pub item_at : ItemTree → ℕ
-item_at (ChannelItem channel) = channel.at
+item_at (ChannelItem at direction label name) = at
 item_at (ExceptionItem at name) = at
-item_at (GlobalItem global) = global.at
+item_at (GlobalItem at base label name value) = at
 item_at (ProcedureItem procedure) = procedure.at
 
 -- a name with readers after it owns a policy, and one without them is that of a variable
 abbrev pub component_of : NameTree → Option (List NameTree) → ComponentTree
 component_of name readers = unwrap_or (option_map (PolicyComponent name) readers) (VariableComponent name)
+
+-- a channel, and a global, by the parts of its item
+pub record ChannelTree : Type 0 where
+  pub at : ℕ
+  pub direction : Direction
+  pub label : LabelTree
+  pub name : NameTree
+
+abbrev pub channel_item : ChannelTree → ItemTree
+channel_item channel = ChannelItem channel.at channel.direction channel.label channel.name
+
+pub record GlobalTree : Type 0 where
+  pub at : ℕ
+  pub base : BaseType
+  pub label : LabelTree
+  pub name : NameTree
+  pub value : GlobalValueTree
+
+abbrev pub global_item : GlobalTree → ItemTree
+global_item global = GlobalItem global.at global.base global.label global.name global.value
+
+-- a call, the size of an array, what a procedure answers, and what it throws
+abbrev pub CallTree : Type 0
+CallTree = NameTree × List ExpressionTree
+
+abbrev pub SizeTree : Type 0
+SizeTree = ℕ × ℕ
+
+abbrev pub WrittenResultTree : Type 0
+WrittenResultTree = Option (BaseType × LabelTree)
+
+abbrev pub ThrownTree : Type 0
+ThrownTree = NameTree × LabelTree
 
 -- The trees of the code's values.
 abbrev pub name_tree : Name → NameTree
@@ -229,7 +236,7 @@ optional_expression_tree None = None
 optional_expression_tree (Some value) = Some (expression_tree value)
 
 abbrev pub call_tree : Call → CallTree
-call_tree call = record { procedure = name_tree call.procedure; arguments = map expression_tree call.arguments.now }
+call_tree call = (name_tree call.procedure, map expression_tree call.arguments.now)
 
 abbrev pub right_tree : RightSide → RightTree
 right_tree (right_sides.Receive at channel) = ReceivedTree at (name_tree channel)
@@ -237,7 +244,7 @@ right_tree (right_sides.Call call) = CalledTree (call_tree call.now)
 right_tree (right_sides.Value value) = ValueTree (expression_tree value)
 
 abbrev pub size_tree : Size → SizeTree
-size_tree size = record { at = size.at; size = size.size }
+size_tree size = (size.at, size.size)
 
 -- without an `else` the other block is empty, and stands where the statement does
 abbrev pub if_tree : (at : ℕ) → ExpressionTree → BlockTree → Option BlockTree → StatementTree
@@ -314,8 +321,8 @@ global_tree global = record {
 }
 
 abbrev pub written_result_tree : WrittenResult → WrittenResultTree
-written_result_tree outcomes.Nothing = NothingTree
-written_result_tree (outcomes.Value base label) = ResultTree base (label_tree label)
+written_result_tree outcomes.Nothing = None
+written_result_tree (outcomes.Value base label) = Some (base, label_tree label)
 
 abbrev pub parameter_tree : Parameter → ParameterTree
 parameter_tree parameter = record {
@@ -326,7 +333,7 @@ parameter_tree parameter = record {
 }
 
 abbrev pub thrown_tree : Thrown → ThrownTree
-thrown_tree thrown = record { name = name_tree thrown.name; label = label_tree thrown.label }
+thrown_tree thrown = (name_tree thrown.name, label_tree thrown.label)
 
 abbrev pub procedure_tree : Procedure → ProcedureTree
 procedure_tree procedure = record {
@@ -341,9 +348,9 @@ procedure_tree procedure = record {
 }
 
 abbrev pub item_tree : Item → ItemTree
-item_tree (items.Channel channel) = ChannelItem (channel_tree channel)
+item_tree (items.Channel channel) = channel_item (channel_tree channel)
 item_tree (items.Exception at name) = ExceptionItem at (name_tree name)
-item_tree (items.Global global) = GlobalItem (global_tree global)
+item_tree (items.Global global) = global_item (global_tree global)
 item_tree (items.Procedure procedure) = ProcedureItem (procedure_tree procedure)
 
 -- the tree of a program, which is the list of its items

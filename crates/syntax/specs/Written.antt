@@ -4,7 +4,7 @@
 use Rattle.std.specs.Prelude.{ℕ, ◌≤◌, List, Option, None, Some, length, IsTrue, All}
 use Rattle.common.specs.declared.limits.TheConstants.{MAX_INTEGER}
 use Rattle.lexer.specs.Words.{is_name_text}
-use Rattle.syntax.specs.Tree.{NameTree, ComponentTree, PolicyComponent, VariableComponent, LabelTree, ExpressionTree, IntegerTree, TruthTree, VariableTree, ElementTree, UnaryTree, BinaryTree, CallTree, RightTree, ReceivedTree, CalledTree, ValueTree, SizeTree, StatementTree, DeclareTree, DeclareArrayTree, AssignTree, AssignElementTree, CallTree', ReceiveTree, SendTree, IfTree, WhileTree, BreakTree, ContinueTree, ThrowTree, ReturnTree, TryTree, NestedTree, BlockTree, BlockOf, StatementTrees, NoStatement, StatementThen, CatchTrees, NoCatch, CatchThen, ChannelTree, ConstantTree, IntegerConstant, TruthConstant, GlobalValueTree, ScalarTree, ArrayTree, GlobalTree, WrittenResultTree, NothingTree, ResultTree, ParameterTree, ThrownTree, ProcedureTree, ItemTree, ChannelItem, ExceptionItem, GlobalItem, ProcedureItem, ProgramTree}
+use Rattle.syntax.specs.Tree.{NameTree, ComponentTree, PolicyComponent, VariableComponent, LabelTree, ExpressionTree, IntegerTree, TruthTree, VariableTree, ElementTree, UnaryTree, BinaryTree, CallTree, RightTree, ReceivedTree, CalledTree, ValueTree, SizeTree, StatementTree, DeclareTree, DeclareArrayTree, AssignTree, AssignElementTree, CallTree', ReceiveTree, SendTree, IfTree, WhileTree, BreakTree, ContinueTree, ThrowTree, ReturnTree, TryTree, NestedTree, BlockTree, BlockOf, StatementTrees, NoStatement, StatementThen, CatchTrees, NoCatch, CatchThen, ConstantTree, IntegerConstant, TruthConstant, GlobalValueTree, ScalarTree, ArrayTree, WrittenResultTree, ParameterTree, ThrownTree, ProcedureTree, ItemTree, ChannelItem, ExceptionItem, GlobalItem, ProcedureItem, ProgramTree}
 
 -- no place is refused
 abbrev pub Anywhere : ℕ → Type 0
@@ -47,7 +47,7 @@ module _ (fits : ℕ → Type 0) (word : List ℕ → Type 0) (number : ℕ → 
   IsWrittenOptionalExpression (Some value) = IsWrittenExpression value
 
   abbrev pub IsWrittenCall : CallTree → Type 0
-  IsWrittenCall call = IsWrittenName call.procedure × All IsWrittenExpression call.arguments
+  IsWrittenCall call = IsWrittenName call.0 × All IsWrittenExpression call.1
 
   abbrev pub IsWrittenRight : RightTree → Type 0
   IsWrittenRight (ReceivedTree at channel) = fits at × IsWrittenName channel
@@ -55,7 +55,7 @@ module _ (fits : ℕ → Type 0) (word : List ℕ → Type 0) (number : ℕ → 
   IsWrittenRight (ValueTree value) = IsWrittenExpression value
 
   abbrev pub IsWrittenSize : SizeTree → Type 0
-  IsWrittenSize size = fits size.at × number size.size
+  IsWrittenSize size = fits size.0 × number size.1
 
   abbrev mutual
     pub IsWrittenStatement : StatementTree → Type 0
@@ -91,9 +91,6 @@ module _ (fits : ℕ → Type 0) (word : List ℕ → Type 0) (number : ℕ → 
     AreWrittenCatches (CatchThen at exception body rest) =
         fits at × IsWrittenName exception × IsWrittenBlock body × AreWrittenCatches rest
 
-  abbrev pub IsWrittenChannel : ChannelTree → Type 0
-  IsWrittenChannel channel = fits channel.at × IsWrittenLabel channel.label × IsWrittenName channel.name
-
   abbrev pub IsWrittenConstant : ConstantTree → Type 0
   IsWrittenConstant (IntegerConstant at negative value) = fits at × number value
   IsWrittenConstant (TruthConstant at value) = fits at
@@ -102,19 +99,15 @@ module _ (fits : ℕ → Type 0) (word : List ℕ → Type 0) (number : ℕ → 
   IsWrittenGlobalValue (ScalarTree constant) = IsWrittenConstant constant
   IsWrittenGlobalValue (ArrayTree size) = IsWrittenSize size
 
-  abbrev pub IsWrittenGlobal : GlobalTree → Type 0
-  IsWrittenGlobal global =
-      fits global.at × IsWrittenLabel global.label × IsWrittenName global.name × IsWrittenGlobalValue global.value
-
   abbrev pub IsWrittenResult : WrittenResultTree → Type 0
-  IsWrittenResult NothingTree = Unit {0}
-  IsWrittenResult (ResultTree base label) = IsWrittenLabel label
+  IsWrittenResult None = Unit {0}
+  IsWrittenResult (Some (base, label)) = IsWrittenLabel label
 
   abbrev pub IsWrittenParameter : ParameterTree → Type 0
   IsWrittenParameter parameter = fits parameter.at × IsWrittenLabel parameter.label × IsWrittenName parameter.name
 
   abbrev pub IsWrittenThrown : ThrownTree → Type 0
-  IsWrittenThrown thrown = IsWrittenName thrown.name × IsWrittenLabel thrown.label
+  IsWrittenThrown thrown = IsWrittenName thrown.0 × IsWrittenLabel thrown.1
 
   pub record IsWrittenProcedure (procedure : ProcedureTree) : Type 0 where
     pub at : fits procedure.at
@@ -127,9 +120,10 @@ module _ (fits : ℕ → Type 0) (word : List ℕ → Type 0) (number : ℕ → 
     pub body : IsWrittenBlock procedure.body
 
   abbrev pub IsWrittenItem : ItemTree → Type 0
-  IsWrittenItem (ChannelItem channel) = IsWrittenChannel channel
+  IsWrittenItem (ChannelItem at direction label name) = fits at × IsWrittenLabel label × IsWrittenName name
   IsWrittenItem (ExceptionItem at name) = fits at × IsWrittenName name
-  IsWrittenItem (GlobalItem global) = IsWrittenGlobal global
+  IsWrittenItem (GlobalItem at base label name value) =
+      fits at × IsWrittenLabel label × IsWrittenName name × IsWrittenGlobalValue value
   IsWrittenItem (ProcedureItem procedure) = IsWrittenProcedure procedure
 
   -- a program as a text can have it

@@ -85,22 +85,22 @@ module _ (scope : LabelScope) (globals : (number : ℕ) → IfSome (slice_get sc
 module _ (h : PrincipalHierarchy) where
   item_canonical : (top : TopLevel) (tables : Program) (item : ItemTree) → HasCanonicalLabels tables → IfOk (next_item h top tables item) HasCanonicalLabels
   unfolding next_item channel_finding global_finding
-  item_canonical top tables (ChannelItem channel) kept =
-      subst (λ found. IfOk found (HasCanonicalLabels)) (sym (next_channel h top tables channel))
-      (then_finds (channel_finding (heads h top tables.globals) channel) _ IsCanonicalChannel HasCanonicalLabels
-      (then_finds (label_finding (heads h top tables.globals) channel.label) _ IsCanonicalLabel IsCanonicalChannel
-      (label_canonical (heads h top tables.globals) (λ number. all_there IsCanonicalGlobal tables.globals number kept.globals) refl channel.label) (λ label is. is))
+  item_canonical top tables (ChannelItem at way label called) kept =
+      subst (λ found. IfOk found (HasCanonicalLabels)) (sym (next_channel h top tables (record { at = at; direction = way; label = label; name = called })))
+      (then_finds (channel_finding (heads h top tables.globals) (record { at = at; direction = way; label = label; name = called })) _ IsCanonicalChannel HasCanonicalLabels
+      (then_finds (label_finding (heads h top tables.globals) label) _ IsCanonicalLabel IsCanonicalChannel
+      (label_canonical (heads h top tables.globals) (λ number. all_there IsCanonicalGlobal tables.globals number kept.globals) refl label) (λ label is. is))
       (λ entry is. record {
         channels = All-append IsCanonicalChannel tables.channels (entry ∷ []) kept.channels (All-cons IsCanonicalChannel entry [] is (All-nil IsCanonicalChannel));
         globals = kept.globals;
       }))
   item_canonical top tables (ExceptionItem at name) kept = record { channels = kept.channels; globals = kept.globals }
-  item_canonical top tables (GlobalItem global) kept =
-      subst (λ found. IfOk found (HasCanonicalLabels)) (sym (next_global h top tables global))
-      (then_finds (global_finding (heads h top tables.globals) global) _ IsCanonicalGlobal HasCanonicalLabels
-      (then_finds (label_finding (heads h top tables.globals) global.label) _ IsCanonicalLabel IsCanonicalGlobal
-      (label_canonical (heads h top tables.globals) (λ number. all_there IsCanonicalGlobal tables.globals number kept.globals) refl global.label) (λ label is.
-      then_finds (first_finding global.base global.value) _ (λ one. Unit {0}) IsCanonicalGlobal (any_finds (first_finding global.base global.value))
+  item_canonical top tables (GlobalItem at typed label called value) kept =
+      subst (λ found. IfOk found (HasCanonicalLabels)) (sym (next_global h top tables (record { at = at; base = typed; label = label; name = called; value = value })))
+      (then_finds (global_finding (heads h top tables.globals) (record { at = at; base = typed; label = label; name = called; value = value })) _ IsCanonicalGlobal HasCanonicalLabels
+      (then_finds (label_finding (heads h top tables.globals) label) _ IsCanonicalLabel IsCanonicalGlobal
+      (label_canonical (heads h top tables.globals) (λ number. all_there IsCanonicalGlobal tables.globals number kept.globals) refl label) (λ label is.
+      then_finds (first_finding typed value) _ (λ one. Unit {0}) IsCanonicalGlobal (any_finds (first_finding typed value))
       (λ value nothing. is)))
       (λ entry is. record {
         channels = kept.channels;

@@ -129,9 +129,9 @@ abbrev all_names : ItemNames → List (List ℕ)
 all_names named = named.exceptions ++ (named.channels ++ (named.globals ++ named.procedures))
 
 abbrev pub names_with : ItemNames → ItemTree → ItemNames
-names_with named (ChannelItem channel) = record named { channels = named.channels ++ channel.name.text ∷ [] }
+names_with named (ChannelItem at way label called) = record named { channels = named.channels ++ called.text ∷ [] }
 names_with named (ExceptionItem at name) = record named { exceptions = named.exceptions ++ name.text ∷ [] }
-names_with named (GlobalItem global) = record named { globals = named.globals ++ global.name.text ∷ [] }
+names_with named (GlobalItem at typed label called value) = record named { globals = named.globals ++ called.text ∷ [] }
 names_with named (ProcedureItem procedure) = record named { procedures = named.procedures ++ procedure.name.text ∷ [] }
 
 abbrev pub names_all : ItemNames → List ItemTree → ItemNames
@@ -143,15 +143,15 @@ no_names = record { exceptions = []; channels = []; globals = []; procedures = [
 
 item_inserted : (named : ItemNames) (item : ItemTree) → Inserted (all_names named) (item_name item).text (all_names (names_with named item))
 item_inserted named (ExceptionItem at name) = inserted_last named.exceptions (named.channels ++ (named.globals ++ named.procedures)) name.text
-item_inserted named (ChannelItem channel) =
-    inserted_after named.exceptions (named.channels ++ (named.globals ++ named.procedures)) channel.name.text
-    ((named.channels ++ channel.name.text ∷ []) ++ (named.globals ++ named.procedures))
-    (inserted_last named.channels (named.globals ++ named.procedures) channel.name.text)
-item_inserted named (GlobalItem global) =
-    inserted_after named.exceptions (named.channels ++ (named.globals ++ named.procedures)) global.name.text
-    (named.channels ++ ((named.globals ++ global.name.text ∷ []) ++ named.procedures))
-    (inserted_after named.channels (named.globals ++ named.procedures) global.name.text ((named.globals ++ global.name.text ∷ []) ++ named.procedures)
-    (inserted_last named.globals named.procedures global.name.text))
+item_inserted named (ChannelItem at way label called) =
+    inserted_after named.exceptions (named.channels ++ (named.globals ++ named.procedures)) called.text
+    ((named.channels ++ called.text ∷ []) ++ (named.globals ++ named.procedures))
+    (inserted_last named.channels (named.globals ++ named.procedures) called.text)
+item_inserted named (GlobalItem at typed label called value) =
+    inserted_after named.exceptions (named.channels ++ (named.globals ++ named.procedures)) called.text
+    (named.channels ++ ((named.globals ++ called.text ∷ []) ++ named.procedures))
+    (inserted_after named.channels (named.globals ++ named.procedures) called.text ((named.globals ++ called.text ∷ []) ++ named.procedures)
+    (inserted_last named.globals named.procedures called.text))
 item_inserted named (ProcedureItem procedure) =
     inserted_after named.exceptions (named.channels ++ (named.globals ++ named.procedures)) procedure.name.text
     (named.channels ++ (named.globals ++ (named.procedures ++ procedure.name.text ∷ [])))
@@ -160,9 +160,9 @@ item_inserted named (ProcedureItem procedure) =
     (record { before = named.procedures; after = []; shorter_is = sym (append-nil named.procedures); longer_is = refl })))
 
 item_proper : (item : ItemTree) → IsWrittenItem Anywhere (IsNameWithin MAX_TEXT) IsInteger item → IsProperName (item_name item).text
-item_proper (ChannelItem channel) is = is.2.1
+item_proper (ChannelItem at way label called) is = is.2.1
 item_proper (ExceptionItem at name) is = is.1.1
-item_proper (GlobalItem global) is = is.2.1
+item_proper (GlobalItem at typed label called value) is = is.2.1
 item_proper (ProcedureItem procedure) is = is.name.1
 
 fresh_is : (found : Option Meaning) (at : ℕ) → IfOk (fresh_finding found at) (λ one. found ≡ None)
@@ -230,9 +230,9 @@ procedure_named scope signatures procedure =
 item_named : (h : PrincipalHierarchy) (top : TopLevel) (named : ItemNames) (tables : Program) (item : ItemTree) → TableNames named tables
     → IfOk (next_item h top tables item) (TableNames (names_with named item))
 unfolding next_item
-item_named h top named tables (ChannelItem channel) kept =
-    subst (λ found. IfOk found (TableNames (names_with named (ChannelItem channel)))) (sym (next_channel h top tables channel))
-    (then_finds (channel_finding (heads h top tables.globals) channel) _ (λ (entry : ChannelEntry). entry.name ≡ channel.name.text) _ (channel_named (heads h top tables.globals) channel) (λ entry same. record {
+item_named h top named tables (ChannelItem at way label called) kept =
+    subst (λ found. IfOk found (TableNames (names_with named (ChannelItem at way label called)))) (sym (next_channel h top tables (record { at = at; direction = way; label = label; name = called })))
+    (then_finds (channel_finding (heads h top tables.globals) (record { at = at; direction = way; label = label; name = called })) _ (λ (entry : ChannelEntry). entry.name ≡ called.text) _ (channel_named (heads h top tables.globals) (record { at = at; direction = way; label = label; name = called })) (λ entry same. record {
       exceptions = kept.exceptions;
       channels = map_push channel_name tables.channels entry ∙ (λ i. kept.channels i ++ same i ∷ []);
       globals = kept.globals;
@@ -244,9 +244,9 @@ item_named h top named tables (ExceptionItem at name) kept = record {
   globals = kept.globals;
   procedures = kept.procedures;
 }
-item_named h top named tables (GlobalItem global) kept =
-    subst (λ found. IfOk found (TableNames (names_with named (GlobalItem global)))) (sym (next_global h top tables global))
-    (then_finds (global_finding (heads h top tables.globals) global) _ (λ (entry : GlobalEntry). entry.name ≡ global.name.text) _ (global_named (heads h top tables.globals) global) (λ entry same. record {
+item_named h top named tables (GlobalItem at typed label called value) kept =
+    subst (λ found. IfOk found (TableNames (names_with named (GlobalItem at typed label called value)))) (sym (next_global h top tables (record { at = at; base = typed; label = label; name = called; value = value })))
+    (then_finds (global_finding (heads h top tables.globals) (record { at = at; base = typed; label = label; name = called; value = value })) _ (λ (entry : GlobalEntry). entry.name ≡ called.text) _ (global_named (heads h top tables.globals) (record { at = at; base = typed; label = label; name = called; value = value })) (λ entry same. record {
       exceptions = kept.exceptions;
       channels = kept.channels;
       globals = map_push global_name tables.globals entry ∙ (λ i. kept.globals i ++ same i ∷ []);

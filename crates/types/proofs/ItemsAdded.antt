@@ -6,7 +6,7 @@ use Rattle.std.proofs.lemmas.List.{map_push}
 use Rattle.std.proofs.lemmas.List.Elements.{All-push}
 use Rattle.principals.specs.ActsFor.{PrincipalHierarchy}
 use Rattle.labels.specs.LabelTable.{Extends}
-use Rattle.syntax.specs.Tree.{NameTree, ChannelTree, GlobalTree, ProcedureTree, ChannelItem, ExceptionItem, GlobalItem, ProcedureItem}
+use Rattle.syntax.specs.Tree.{NameTree, ChannelTree, GlobalTree, ProcedureTree, channel_item, global_item, ExceptionItem, ProcedureItem}
 use Rattle.resolved.specs.declared.tables.Channel.{Channel}
 use Rattle.resolved.specs.declared.tables.GlobalVariable.{GlobalVariable}
 use Rattle.resolved.specs.declared.tables.Procedure.{Procedure}
@@ -33,7 +33,7 @@ module _ (h : PrincipalHierarchy) (top : TopLevel) (tables : ItemTables) where
   module _ (inside : AreTablesInside tables) (variables : VariableEntries) (extended : Extends tables.variables.labels variables.labels) (globals : variables.globals ≡ tables.variables.globals) where
     pub channel_added : (written : ChannelTree) (one : Channel) (channels : Vec Channel Global) → channel_finding (heads h top tables.variables.globals) written ≡ Ok (channel_entry variables.labels one)
         → channels.items ≡ tables.channels.items ++ one ∷ []
-        → next_item h top (tables_view tables) (ChannelItem written) ≡ Ok (tables_view (record tables { variables = variables; channels = channels }))
+        → next_item h top (tables_view tables) (channel_item written) ≡ Ok (tables_view (record tables { variables = variables; channels = channels }))
     unfolding next_item
     channel_added written one channels found is =
         let same = same_channels tables.variables.labels variables.labels extended tables.channels.items inside.of_channels in
@@ -46,7 +46,7 @@ module _ (h : PrincipalHierarchy) (top : TopLevel) (tables : ItemTables) where
 
     pub global_added : (written : GlobalTree) (one : GlobalVariable) (later : VariableEntries) → global_finding (heads h top tables.variables.globals) written ≡ Ok (global_entry variables.labels one)
         → later ≡ record variables { globals = variables.globals ++ global_entry variables.labels one ∷ [] }
-        → next_item h top (tables_view tables) (GlobalItem written) ≡ Ok (tables_view (record tables { variables = later }))
+        → next_item h top (tables_view tables) (global_item written) ≡ Ok (tables_view (record tables { variables = later }))
     unfolding next_item
     global_added written one later found is =
         let channels = same_channels tables.variables.labels variables.labels extended tables.channels.items inside.of_channels in

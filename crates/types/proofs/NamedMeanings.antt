@@ -61,21 +61,21 @@ placed_declaring named name meaning names placed all other found e = go (bytes_e
     go false is e = all other found e
 
 placed_further : (named : ItemNames) (item : ItemTree) (meaning : Meaning) (name : List ℕ) → PlacedIn named meaning name → PlacedIn (names_with named item) meaning name
-placed_further named (ChannelItem channel) (meanings.Item (Channel direction) n) name e = still_is named.channels (channel.name.text ∷ []) n name e
-placed_further named (ChannelItem channel) (meanings.Item Exception n) name e = e
-placed_further named (ChannelItem channel) (meanings.Item Procedure n) name e = e
-placed_further named (ChannelItem channel) (meanings.Variable (Global n) base size) name e = e
-placed_further named (ChannelItem channel) (meanings.Variable (Local n) base size) name e = e
+placed_further named (ChannelItem at way label called) (meanings.Item (Channel direction) n) name e = still_is named.channels (called.text ∷ []) n name e
+placed_further named (ChannelItem at way label called) (meanings.Item Exception n) name e = e
+placed_further named (ChannelItem at way label called) (meanings.Item Procedure n) name e = e
+placed_further named (ChannelItem at way label called) (meanings.Variable (Global n) base size) name e = e
+placed_further named (ChannelItem at way label called) (meanings.Variable (Local n) base size) name e = e
 placed_further named (ExceptionItem at text) (meanings.Item (Channel direction) n) name e = e
 placed_further named (ExceptionItem at text) (meanings.Item Exception n) name e = still_is (built_in_names ++ named.exceptions) (text.text ∷ []) n name e
 placed_further named (ExceptionItem at text) (meanings.Item Procedure n) name e = e
 placed_further named (ExceptionItem at text) (meanings.Variable (Global n) base size) name e = e
 placed_further named (ExceptionItem at text) (meanings.Variable (Local n) base size) name e = e
-placed_further named (GlobalItem global) (meanings.Item (Channel direction) n) name e = e
-placed_further named (GlobalItem global) (meanings.Item Exception n) name e = e
-placed_further named (GlobalItem global) (meanings.Item Procedure n) name e = e
-placed_further named (GlobalItem global) (meanings.Variable (Global n) base size) name e = still_is named.globals (global.name.text ∷ []) n name e
-placed_further named (GlobalItem global) (meanings.Variable (Local n) base size) name e = e
+placed_further named (GlobalItem at typed label called value) (meanings.Item (Channel direction) n) name e = e
+placed_further named (GlobalItem at typed label called value) (meanings.Item Exception n) name e = e
+placed_further named (GlobalItem at typed label called value) (meanings.Item Procedure n) name e = e
+placed_further named (GlobalItem at typed label called value) (meanings.Variable (Global n) base size) name e = still_is named.globals (called.text ∷ []) n name e
+placed_further named (GlobalItem at typed label called value) (meanings.Variable (Local n) base size) name e = e
 placed_further named (ProcedureItem procedure) (meanings.Item (Channel direction) n) name e = e
 placed_further named (ProcedureItem procedure) (meanings.Item Exception n) name e = e
 placed_further named (ProcedureItem procedure) (meanings.Item Procedure n) name e = still_is named.procedures (procedure.name.text ∷ []) n name e
@@ -83,20 +83,20 @@ placed_further named (ProcedureItem procedure) (meanings.Variable (Global n) bas
 placed_further named (ProcedureItem procedure) (meanings.Variable (Local n) base size) name e = e
 
 new_placed : (named : ItemNames) (top : TopLevel) (item : ItemTree) → NamesAreNumbered named top → PlacedIn (names_with named item) (item_meaning top item) (item_name item).text
-new_placed named top (ChannelItem channel) kept =
-    subst (λ n. slice_get (named.channels ++ channel.name.text ∷ []) n ≡ Some channel.name.text) (sym kept.channels) (last_is named.channels channel.name.text)
+new_placed named top (ChannelItem at way label called) kept =
+    subst (λ n. slice_get (named.channels ++ called.text ∷ []) n ≡ Some called.text) (sym kept.channels) (last_is named.channels called.text)
 new_placed named top (ExceptionItem at name) kept =
     subst (λ n. slice_get ((built_in_names ++ named.exceptions) ++ name.text ∷ []) n ≡ Some name.text) (sym kept.exceptions) (last_is (built_in_names ++ named.exceptions) name.text)
-new_placed named top (GlobalItem global) kept =
-    subst (λ n. slice_get (named.globals ++ global.name.text ∷ []) n ≡ Some global.name.text) (sym kept.globals) (last_is named.globals global.name.text)
+new_placed named top (GlobalItem at typed label called value) kept =
+    subst (λ n. slice_get (named.globals ++ called.text ∷ []) n ≡ Some called.text) (sym kept.globals) (last_is named.globals called.text)
 new_placed named top (ProcedureItem procedure) kept =
     subst (λ n. slice_get (named.procedures ++ procedure.name.text ∷ []) n ≡ Some procedure.name.text) (sym kept.procedures) (last_is named.procedures procedure.name.text)
 
 counted_placed : (named : ItemNames) (top : TopLevel) (item : ItemTree) (names : Environment) → NamesAreNumbered named top
     → ((name : List ℕ) (meaning : Meaning) → names name ≡ Some meaning → PlacedIn (names_with named item) meaning name)
     → NamesAreNumbered (names_with named item) (record (counted top item) { names = names })
-counted_placed named top (ChannelItem channel) names kept placed = record {
-  channels = omega (arith, kept.channels, length-append named.channels (channel.name.text ∷ []));
+counted_placed named top (ChannelItem at way label called) names kept placed = record {
+  channels = omega (arith, kept.channels, length-append named.channels (called.text ∷ []));
   exceptions = kept.exceptions;
   globals = kept.globals;
   procedures = kept.procedures;
@@ -109,10 +109,10 @@ counted_placed named top (ExceptionItem at text) names kept placed = record {
   procedures = kept.procedures;
   names = placed;
 }
-counted_placed named top (GlobalItem global) names kept placed = record {
+counted_placed named top (GlobalItem at typed label called value) names kept placed = record {
   channels = kept.channels;
   exceptions = kept.exceptions;
-  globals = omega (arith, kept.globals, length-append named.globals (global.name.text ∷ []));
+  globals = omega (arith, kept.globals, length-append named.globals (called.text ∷ []));
   procedures = kept.procedures;
   names = placed;
 }

@@ -4,7 +4,7 @@ use Rattle.common.specs.Answers.{IfRefused}
 use Rattle.common.specs.declared.fault.OrNoMemory.{OrNoMemory}
 use Rattle.principals.specs.ActsFor.{PrincipalHierarchy}
 use Rattle.resolved.specs.Program.{Program, GlobalEntry}
-use Rattle.syntax.specs.Tree.{NameTree, ItemTree, ChannelItem, ExceptionItem, GlobalItem, ProcedureItem, ChannelTree, GlobalTree}
+use Rattle.syntax.specs.Tree.{NameTree, ItemTree, ChannelItem, ExceptionItem, GlobalItem, ProcedureItem, ChannelTree, GlobalTree, channel_item, global_item}
 use Rattle.common.specs.declared.refusal.RefusalAt.{RefusalAt}
 use Rattle.types.specs.declared.fault.TypeRefusalKind.{TypeRefusalKind}
 use Rattle.types.specs.declared.scope.Meaning.{Meaning}
@@ -25,9 +25,9 @@ named_item top item =
 
 pub next_is : (top : TopLevel) (item : ItemTree) → next_name top item ≡ named_item top item
 unfolding next_name
-next_is top (ChannelItem channel) = refl
+next_is top (ChannelItem at way label called) = refl
 next_is top (ExceptionItem at name) = refl
-next_is top (GlobalItem global) = refl
+next_is top (GlobalItem at typed label called value) = refl
 next_is top (ProcedureItem procedure) = refl
 
 -- a name that is refused, where this is what was looked up
@@ -48,7 +48,7 @@ then_then (Ok x) next last = refl
 then_then (Err fault) next last = refl
 
 pub next_channel : (h : PrincipalHierarchy) (top : TopLevel) (tables : Program) (channel : ChannelTree)
-    → next_item h top tables (ChannelItem channel)
+    → next_item h top tables (channel_item channel)
     ≡ and_then (channel_finding (heads h top tables.globals) channel) (λ entry. give (record tables { channels = tables.channels ++ entry ∷ [] }))
 unfolding next_item channel_finding
 next_channel h top tables channel =
@@ -57,7 +57,7 @@ next_channel h top tables channel =
     (λ entry. give (record tables { channels = tables.channels ++ entry ∷ [] })))
 
 pub next_global : (h : PrincipalHierarchy) (top : TopLevel) (tables : Program) (global : GlobalTree)
-    → next_item h top tables (GlobalItem global)
+    → next_item h top tables (global_item global)
     ≡ and_then (global_finding (heads h top tables.globals) global) (λ entry. give (record tables { globals = tables.globals ++ entry ∷ [] }))
 unfolding next_item global_finding
 next_global h top tables global =
@@ -72,12 +72,12 @@ next_global h top tables global =
 
 pub channel_wrong : (h : PrincipalHierarchy) (top : TopLevel) (tables : Program) (channel : ChannelTree) (fault : OrNoMemory (RefusalAt TypeRefusalKind))
     → IfRefused (IsRefusalOf (channel_finding (heads h top tables.globals) channel)) fault
-    → IfRefused (IsRefusalOf (next_item h top tables (ChannelItem channel))) fault
+    → IfRefused (IsRefusalOf (next_item h top tables (channel_item channel))) fault
 channel_wrong h top tables channel fault wrong =
     subst (λ found. IfRefused (IsRefusalOf found) fault) (sym (next_channel h top tables channel)) (fails_later _ _ fault wrong)
 
 pub global_wrong : (h : PrincipalHierarchy) (top : TopLevel) (tables : Program) (global : GlobalTree) (fault : OrNoMemory (RefusalAt TypeRefusalKind))
     → IfRefused (IsRefusalOf (global_finding (heads h top tables.globals) global)) fault
-    → IfRefused (IsRefusalOf (next_item h top tables (GlobalItem global))) fault
+    → IfRefused (IsRefusalOf (next_item h top tables (global_item global))) fault
 global_wrong h top tables global fault wrong =
     subst (λ found. IfRefused (IsRefusalOf found) fault) (sym (next_global h top tables global)) (fails_later _ _ fault wrong)

@@ -81,11 +81,11 @@ thrown_pushed before after extended throws pushed one inside is =
     ap (map (thrown_entry after)) is ∙ map_push (thrown_entry after) throws one
     ∙ ap (λ front. front ++ thrown_entry after one ∷ []) (same_thrown before after extended throws inside)
 
-pub thrown_found : (scope : LabelScope) (before after : List ThrownEntry) (thrown : ThrownTree) (exception : ℕ) (label : Label) → use_as (item_of Exception) (scope.names thrown.name.text) thrown.name.at ≡ Ok exception
-    → is_thrown before exception ≡ false → label_finding scope thrown.label ≡ Ok label → after ≡ before ++ record { exception = exception; label = label } ∷ []
+pub thrown_found : (scope : LabelScope) (before after : List ThrownEntry) (thrown : ThrownTree) (exception : ℕ) (label : Label) → use_as (item_of Exception) (scope.names thrown.0.text) thrown.0.at ≡ Ok exception
+    → is_thrown before exception ≡ false → label_finding scope thrown.1 ≡ Ok label → after ≡ before ++ record { exception = exception; label = label } ∷ []
     → next_thrown scope before thrown ≡ Ok after
 thrown_found scope before after thrown exception label known new labelled is =
-    then_ok _ _ exception known ∙ then_ok _ _ tt (ap (λ test. require (not test) refusals.DeclaredTwice thrown.name.at) new) ∙ then_ok _ _ label labelled ∙ ap (λ list. Ok list) (sym is)
+    then_ok _ _ exception known ∙ then_ok _ _ tt (ap (λ test. require (not test) refusals.DeclaredTwice thrown.0.at) new) ∙ then_ok _ _ label labelled ∙ ap (λ list. Ok list) (sym is)
 
 -- which exceptions are named, with one more
 pub thrown_or_last : (throws : List ThrownEntry) (one : ThrownEntry) (number : ℕ) → is_thrown (throws ++ one ∷ []) number ≡ cond (one.exception == number) true (is_thrown throws number)

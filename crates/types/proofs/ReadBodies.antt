@@ -164,7 +164,7 @@ module _ (program : Program) where
           (λ e reads. record { after = scope; reads = ReadStore is index_reads reads; matches = matches })))
       statement_reads scope point (CallTree' call) matches =
           then_finds (call_finding setting.signatures point.names call) _
-          (λ (made : CallUse). IsProcedure program scope call.procedure made.0 × ReadsArguments program scope call.arguments made.1) _
+          (λ (made : CallUse). IsProcedure program scope call.0 made.0 × ReadsArguments program scope call.1 made.1) _
           (call_reads program scope point.names matches.agrees setting.signatures call)
           (λ made parts. record { after = scope; reads = ReadCall parts.0 parts.1; matches = matches })
       statement_reads scope point (ReceiveTree at channel) matches =
@@ -283,12 +283,12 @@ module _ (program : Program) where
   throws_read labels agrees before [] = record { more = []; found_is = sym (append-nil before); reads = ReadNoThrown }
   throws_read labels agrees before (thrown ∷ written) =
       then_finds (next_thrown labels before thrown) (λ next. along (next_thrown labels) next written)
-      (λ next. (entry : ThrownEntry) × (next ≡ before ++ entry ∷ []) × IsException program top_scope thrown.name entry.exception) _
-      (then_finds (use_as (item_of Exception) (labels.names thrown.name.text) thrown.name.at) _ (IsException program top_scope thrown.name) _
-      (item_reads program top_scope labels.names agrees Exception thrown.name) (λ exception is.
-      then_finds (require (not (is_thrown before exception)) _ thrown.name.at) _ (λ one. Unit {0}) _
-      (any_finds (require (not (is_thrown before exception)) _ thrown.name.at)) (λ one nothing.
-      then_finds (label_finding labels thrown.label) _ (λ one. Unit {0}) _ (any_finds (label_finding labels thrown.label))
+      (λ next. (entry : ThrownEntry) × (next ≡ before ++ entry ∷ []) × IsException program top_scope thrown.0 entry.exception) _
+      (then_finds (use_as (item_of Exception) (labels.names thrown.0.text) thrown.0.at) _ (IsException program top_scope thrown.0) _
+      (item_reads program top_scope labels.names agrees Exception thrown.0) (λ exception is.
+      then_finds (require (not (is_thrown before exception)) _ thrown.0.at) _ (λ one. Unit {0}) _
+      (any_finds (require (not (is_thrown before exception)) _ thrown.0.at)) (λ one nothing.
+      then_finds (label_finding labels thrown.1) _ (λ one. Unit {0}) _ (any_finds (label_finding labels thrown.1))
       (λ label nothing. (record { exception = exception; label = label }, refl, is)))))
       (λ next parts.
       let (entry, same, first) = parts in
@@ -345,15 +345,15 @@ module _ (program : Program) where
 
     step : (before : Program) (item : ItemTree) (items : List ItemTree) → IfOk (next_item h top before item) (Step before item items)
     unfolding next_item
-    step before (ChannelItem channel) items =
-        subst (λ found. IfOk found (Step before (ChannelItem channel) items)) (sym (next_channel h top before channel))
-        (then_finds (channel_finding (heads h top before.globals) channel) _ (λ (entry : ChannelEntry). entry.name ≡ channel.name.text) _ (channel_named (heads h top before.globals) channel)
+    step before (ChannelItem at way label called) items =
+        subst (λ found. IfOk found (Step before (ChannelItem at way label called) items)) (sym (next_channel h top before (record { at = at; direction = way; label = label; name = called })))
+        (then_finds (channel_finding (heads h top before.globals) (record { at = at; direction = way; label = label; name = called })) _ (λ (entry : ChannelEntry). entry.name ≡ called.text) _ (channel_named (heads h top before.globals) (record { at = at; direction = way; label = label; name = called }))
         (λ entry named tables rest. record {
-          channels = channel.name.text ∷ rest.channels;
+          channels = called.text ∷ rest.channels;
           exceptions = rest.exceptions;
           globals = rest.globals;
           procedures = rest.procedures;
-          channels_are = rest.channels_are ∙ name_pushed channel_name before.channels entry channel.name.text rest.channels named;
+          channels_are = rest.channels_are ∙ name_pushed channel_name before.channels entry called.text rest.channels named;
           exceptions_are = rest.exceptions_are;
           globals_are = rest.globals_are;
           procedures_are = rest.procedures_are;
@@ -370,17 +370,17 @@ module _ (program : Program) where
       procedures_are = rest.procedures_are;
       reads = ReadException rest.reads;
     }
-    step before (GlobalItem global) items =
-        subst (λ found. IfOk found (Step before (GlobalItem global) items)) (sym (next_global h top before global))
-        (then_finds (global_finding (heads h top before.globals) global) _ (λ (entry : GlobalEntry). entry.name ≡ global.name.text) _ (global_named (heads h top before.globals) global)
+    step before (GlobalItem at typed label called value) items =
+        subst (λ found. IfOk found (Step before (GlobalItem at typed label called value) items)) (sym (next_global h top before (record { at = at; base = typed; label = label; name = called; value = value })))
+        (then_finds (global_finding (heads h top before.globals) (record { at = at; base = typed; label = label; name = called; value = value })) _ (λ (entry : GlobalEntry). entry.name ≡ called.text) _ (global_named (heads h top before.globals) (record { at = at; base = typed; label = label; name = called; value = value }))
         (λ entry named tables rest. record {
           channels = rest.channels;
           exceptions = rest.exceptions;
-          globals = global.name.text ∷ rest.globals;
+          globals = called.text ∷ rest.globals;
           procedures = rest.procedures;
           channels_are = rest.channels_are;
           exceptions_are = rest.exceptions_are;
-          globals_are = rest.globals_are ∙ name_pushed global_name before.globals entry global.name.text rest.globals named;
+          globals_are = rest.globals_are ∙ name_pushed global_name before.globals entry called.text rest.globals named;
           procedures_are = rest.procedures_are;
           reads = ReadGlobal rest.reads;
         }))

@@ -166,17 +166,17 @@ module _ (program : Program) where
 
     pub call_reads : (signatures : List Signature) (call : CallTree)
         → IfOk (call_finding signatures names call)
-        (λ (made : CallUse). IsProcedure program scope call.procedure made.0 × ReadsArguments program scope call.arguments made.1)
+        (λ (made : CallUse). IsProcedure program scope call.0 made.0 × ReadsArguments program scope call.1 made.1)
     unfolding call_finding arguments_finding
     call_reads signatures call =
-        then_finds (use_as (item_of Procedure) (names call.procedure.text) call.procedure.at) _ (IsProcedure program scope call.procedure) _
-        (item_reads Procedure call.procedure) (λ number is.
+        then_finds (use_as (item_of Procedure) (names call.0.text) call.0.at) _ (IsProcedure program scope call.0) _
+        (item_reads Procedure call.0) (λ number is.
         let signature = signature_at signatures number in
-        then_finds (require (length signature.parameters == length call.arguments) _ call.procedure.at) _ (λ one. Unit {0}) _
-        (any_finds (require (length signature.parameters == length call.arguments) _ call.procedure.at)) (λ one nothing.
-        then_finds (along (next_argument names signature.parameters) [] call.arguments) _ (ArgumentsRead [] call.arguments) _
-        (arguments_read signature.parameters [] call.arguments)
-        (λ arguments read. (is, subst (ReadsArguments program scope call.arguments) (sym read.found_is) read.reads))))
+        then_finds (require (length signature.parameters == length call.1) _ call.0.at) _ (λ one. Unit {0}) _
+        (any_finds (require (length signature.parameters == length call.1) _ call.0.at)) (λ one nothing.
+        then_finds (along (next_argument names signature.parameters) [] call.1) _ (ArgumentsRead [] call.1) _
+        (arguments_read signature.parameters [] call.1)
+        (λ arguments read. (is, subst (ReadsArguments program scope call.1) (sym read.found_is) read.reads))))
 
     pub right_reads : (signatures : List Signature) (at : ℕ) (x : Variable) (base : BaseType) (right : RightTree)
         → IfOk (assigned_finding signatures names at x base right) (ReadsRight program scope at x right)
@@ -186,8 +186,8 @@ module _ (program : Program) where
         then_finds (use_as (item_of (Channel directions.Input)) (names channel.text) channel.at) _ (IsChannel program scope channel) _ (item_reads (Channel directions.Input) channel) (λ number is. ReadReceived is))
     right_reads signatures at x base (CalledTree call) =
         then_finds (call_finding signatures names call) _
-        (λ (made : CallUse). IsProcedure program scope call.procedure made.0 × ReadsArguments program scope call.arguments made.1) _
+        (λ (made : CallUse). IsProcedure program scope call.0 made.0 × ReadsArguments program scope call.1 made.1) _
         (call_reads signatures call) (λ made parts.
-        if_finds (gives_base base made.2) (Call at made.0 made.1 (Some x)) _ call.procedure.at _ (λ given. ReadCalled parts.0 parts.1))
+        if_finds (gives_base base made.2) (Call at made.0 made.1 (Some x)) _ call.0.at _ (λ given. ReadCalled parts.0 parts.1))
     right_reads signatures at x base (ValueTree value) =
         then_finds (typed_finding names base value) _ (Reads value) _ (typed_reads base value) (λ e reads. ReadValue reads)

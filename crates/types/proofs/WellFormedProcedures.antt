@@ -10,7 +10,7 @@ use Rattle.std.proofs.Math.Seq.{take-append_seam}
 use Rattle.principals.specs.ActsFor.{PrincipalHierarchy}
 use Rattle.labels.specs.Label.{Label}
 use Rattle.syntax.specs.Nodes as tree
-use Rattle.syntax.specs.Tree.{WrittenResultTree, NothingTree, ResultTree, ParameterTree, ThrownTree, ProcedureTree}
+use Rattle.syntax.specs.Tree.{WrittenResultTree, ParameterTree, ThrownTree, ProcedureTree}
 use Rattle.syntax.specs.Written.{IsInteger, IsWrittenProcedure}
 use Rattle.common.specs.declared.base_type.BaseType.{BaseType}
 use Rattle.resolved.specs.declared.expression.Variable.TheVariants.{Local}
@@ -127,13 +127,13 @@ throws_keep program procedure signatures scope globals_fit slots_fit before node
 throws_keep program procedure signatures scope globals_fit slots_fit before nodes throws (thrown ∷ written) e kept =
     then_finds (next_thrown scope throws thrown) (λ next. along (next_thrown scope) next written)
     (AreWellFormedThrows program procedure signatures scope.hierarchy scope.names (before + tree.thrown_nodes thrown)) _
-    (then_finds (use_as (item_of Exception) (scope.names thrown.name.text) thrown.name.at) _
+    (then_finds (use_as (item_of Exception) (scope.names thrown.0.text) thrown.0.at) _
     (λ number. Means program procedure signatures scope.names → Stands program procedure signatures (meanings.Item Exception number)) _
-    (item_found program procedure signatures Exception scope.names thrown.name) (λ exception stands.
-    then_finds (require (not (is_thrown throws exception)) _ thrown.name.at) _ (λ one. not (is_thrown throws exception) ≡ true) _
-    (require_finds (not (is_thrown throws exception)) _ thrown.name.at) (λ one absent.
-    then_finds (label_finding scope thrown.label) _ (λ found. label_fits scope.hierarchy found ≡ true) _
-    (label_there scope globals_fit slots_fit thrown.label) (λ label there.
+    (item_found program procedure signatures Exception scope.names thrown.0) (λ exception stands.
+    then_finds (require (not (is_thrown throws exception)) _ thrown.0.at) _ (λ one. not (is_thrown throws exception) ≡ true) _
+    (require_finds (not (is_thrown throws exception)) _ thrown.0.at) (λ one absent.
+    then_finds (label_finding scope thrown.1) _ (λ found. label_fits scope.hierarchy found ≡ true) _
+    (label_there scope globals_fit slots_fit thrown.1) (λ label there.
     let new : ThrownEntry = record { exception = exception; label = label } in
     record {
       fit =
@@ -149,8 +149,8 @@ throws_keep program procedure signatures scope globals_fit slots_fit before node
 result_there : (scope : LabelScope) (globals_fit : GlobalsFit scope.hierarchy scope.globals) (slots_fit : SlotsFit scope.hierarchy scope.slots) (finding : WrittenResultTree)
     → IfOk (result_finding scope finding) (λ found. (result_fits scope.hierarchy found ≡ true) × (given_base found ≡ result_base_of finding))
 unfolding result_finding
-result_there scope globals_fit slots_fit NothingTree = (refl, refl)
-result_there scope globals_fit slots_fit (ResultTree base label) =
+result_there scope globals_fit slots_fit None = (refl, refl)
+result_there scope globals_fit slots_fit (Some (base, label)) =
     then_finds (label_finding scope label) _ (λ found. label_fits scope.hierarchy found ≡ true) _ (label_there scope globals_fit slots_fit label)
     (λ found there. (there, refl))
 

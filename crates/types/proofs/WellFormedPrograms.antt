@@ -93,9 +93,9 @@ record Shape : Type 0 where
   pub signatures : List Signature
 
 abbrev shape_with : Shape → ItemTree → Shape
-shape_with shape (ChannelItem channel) = record shape { directions = shape.directions ++ channel.direction ∷ [] }
+shape_with shape (ChannelItem at way label called) = record shape { directions = shape.directions ++ way ∷ [] }
 shape_with shape (ExceptionItem at name) = record shape { exceptions = shape.exceptions + 1 }
-shape_with shape (GlobalItem global) = record shape { variables = shape.variables ++ declared_variable global ∷ [] }
+shape_with shape (GlobalItem at typed label called value) = record shape { variables = shape.variables ++ declared_variable (record { at = at; base = typed; label = label; name = called; value = value }) ∷ [] }
 shape_with shape (ProcedureItem procedure) = record shape { signatures = shape.signatures ++ signature_of procedure ∷ [] }
 
 abbrev shape_all : Shape → List ItemTree → Shape
@@ -126,22 +126,22 @@ means_in_declaring shape name meaning names stands means other found e = go (byt
     go false e = means other found e
 
 stands_further : (shape : Shape) (item : ItemTree) (meaning : Meaning) → StandsIn shape meaning → StandsIn (shape_with shape item) meaning
-stands_further shape (ChannelItem channel) (meanings.Item (Channel direction) n) e = still_is shape.directions (channel.direction ∷ []) n direction e
-stands_further shape (ChannelItem channel) (meanings.Item Exception n) e = e
-stands_further shape (ChannelItem channel) (meanings.Item Procedure n) e = e
-stands_further shape (ChannelItem channel) (meanings.Variable (Global n) base size) e = e
-stands_further shape (ChannelItem channel) (meanings.Variable (Local n) base size) e = e
+stands_further shape (ChannelItem at way label called) (meanings.Item (Channel direction) n) e = still_is shape.directions (way ∷ []) n direction e
+stands_further shape (ChannelItem at way label called) (meanings.Item Exception n) e = e
+stands_further shape (ChannelItem at way label called) (meanings.Item Procedure n) e = e
+stands_further shape (ChannelItem at way label called) (meanings.Variable (Global n) base size) e = e
+stands_further shape (ChannelItem at way label called) (meanings.Variable (Local n) base size) e = e
 stands_further shape (ExceptionItem at name) (meanings.Item (Channel direction) n) e = e
 stands_further shape (ExceptionItem at name) (meanings.Item Exception n) e = omega (arith, e)
 stands_further shape (ExceptionItem at name) (meanings.Item Procedure n) e = e
 stands_further shape (ExceptionItem at name) (meanings.Variable (Global n) base size) e = e
 stands_further shape (ExceptionItem at name) (meanings.Variable (Local n) base size) e = e
-stands_further shape (GlobalItem global) (meanings.Item (Channel direction) n) e = e
-stands_further shape (GlobalItem global) (meanings.Item Exception n) e = e
-stands_further shape (GlobalItem global) (meanings.Item Procedure n) e = e
-stands_further shape (GlobalItem global) (meanings.Variable (Global n) base size) e =
-    still_is shape.variables (declared_variable global ∷ []) n (record { base = base; size = size }) e
-stands_further shape (GlobalItem global) (meanings.Variable (Local n) base size) e = e
+stands_further shape (GlobalItem at typed label called value) (meanings.Item (Channel direction) n) e = e
+stands_further shape (GlobalItem at typed label called value) (meanings.Item Exception n) e = e
+stands_further shape (GlobalItem at typed label called value) (meanings.Item Procedure n) e = e
+stands_further shape (GlobalItem at typed label called value) (meanings.Variable (Global n) base size) e =
+    still_is shape.variables (declared_variable (record { at = at; base = typed; label = label; name = called; value = value }) ∷ []) n (record { base = base; size = size }) e
+stands_further shape (GlobalItem at typed label called value) (meanings.Variable (Local n) base size) e = e
 stands_further shape (ProcedureItem procedure) (meanings.Item (Channel direction) n) e = e
 stands_further shape (ProcedureItem procedure) (meanings.Item Exception n) e = e
 stands_further shape (ProcedureItem procedure) (meanings.Item Procedure n) e =
@@ -159,11 +159,11 @@ record IsWellFormedTop (shape : Shape) (top : TopLevel) : Type 0 where
   pub names : MeansIn shape top.names
 
 new_stands : (shape : Shape) (top : TopLevel) (item : ItemTree) → IsWellFormedTop shape top → StandsIn (shape_with shape item) (item_meaning top item)
-new_stands shape top (ChannelItem channel) kept =
-    subst (λ n. slice_get (shape.directions ++ channel.direction ∷ []) n ≡ Some channel.direction) (sym kept.channels) (last_is shape.directions channel.direction)
+new_stands shape top (ChannelItem at way label called) kept =
+    subst (λ n. slice_get (shape.directions ++ way ∷ []) n ≡ Some way) (sym kept.channels) (last_is shape.directions way)
 new_stands shape top (ExceptionItem at name) kept = omega (arith, kept.exceptions)
-new_stands shape top (GlobalItem global) kept =
-    let type = declared_variable global in
+new_stands shape top (GlobalItem at typed label called value) kept =
+    let type = declared_variable (record { at = at; base = typed; label = label; name = called; value = value }) in
     subst (λ n. slice_get (shape.variables ++ type ∷ []) n ≡ Some type) (sym kept.globals) (last_is shape.variables type)
 new_stands shape top (ProcedureItem procedure) kept =
     let long : length top.signatures ≡ length shape.signatures = ap length kept.signatures in
@@ -171,8 +171,8 @@ new_stands shape top (ProcedureItem procedure) kept =
 
 counted_kept : (shape : Shape) (top : TopLevel) (item : ItemTree) (names : Environment) → IsWellFormedTop shape top → MeansIn (shape_with shape item) names
     → IsWellFormedTop (shape_with shape item) (record (counted top item) { names = names })
-counted_kept shape top (ChannelItem channel) names kept means = record {
-  channels = omega (arith, kept.channels, length-append shape.directions (channel.direction ∷ []));
+counted_kept shape top (ChannelItem at way label called) names kept means = record {
+  channels = omega (arith, kept.channels, length-append shape.directions (way ∷ []));
   exceptions = kept.exceptions;
   globals = kept.globals;
   signatures = kept.signatures;
@@ -185,10 +185,10 @@ counted_kept shape top (ExceptionItem at name) names kept means = record {
   signatures = kept.signatures;
   names = means;
 }
-counted_kept shape top (GlobalItem global) names kept means = record {
+counted_kept shape top (GlobalItem at typed label called value) names kept means = record {
   channels = kept.channels;
   exceptions = kept.exceptions;
-  globals = omega (arith, kept.globals, length-append shape.variables (declared_variable global ∷ []));
+  globals = omega (arith, kept.globals, length-append shape.variables (declared_variable (record { at = at; base = typed; label = label; name = called; value = value }) ∷ []));
   signatures = kept.signatures;
   names = means;
 }
@@ -274,8 +274,8 @@ first_there base (ScalarTree (TruthConstant at value)) =
     if_finds (same_base Boolean base) (None, Truth value) _ at
     (IsWellFormedFirst base (ScalarTree (TruthConstant at value))) (λ same. (refl, and_from (same_base Boolean base) true same refl, refl))
 first_there base (ArrayTree size) =
-    then_finds (size_finding size) _ (λ long. (size_fits (Some long) ≡ true) × (long ≡ size.size)) _
-    (if_finds (nat_lt 0 size.size && nat_le size.size MAX_ELEMENTS) size.size _ size.at (λ long. (size_fits (Some long) ≡ true) × (long ≡ size.size)) (λ fit. (fit, refl)))
+    then_finds (size_finding size) _ (λ long. (size_fits (Some long) ≡ true) × (long ≡ size.1)) _
+    (if_finds (nat_lt 0 size.1 && nat_le size.1 MAX_ELEMENTS) size.1 _ size.0 (λ long. (size_fits (Some long) ≡ true) × (long ≡ size.1)) (λ fit. (fit, refl)))
     (λ long there. (there.0, zero_fits base, ap some_size there.1))
   where
     some_size : ℕ → Option ℕ
@@ -381,11 +381,11 @@ module _ (placed : ℕ → Type 0) (word : List ℕ → Type 0) (h : PrincipalHi
   item_kept : (shape : Shape) (nodes : ℕ) (tables : Program) (item : ItemTree) → IsWrittenItem placed word IsInteger item → AreWellFormedTables h top shape nodes tables
       → IfOk (next_item h top tables item) (AreWellFormedTables h top (shape_with shape item) (nodes + tree.item_nodes item))
   unfolding next_item
-  item_kept shape nodes tables (ChannelItem channel) is kept =
-      subst (λ found. IfOk found (AreWellFormedTables h top (shape_with shape (ChannelItem channel)) (nodes + tree.item_nodes (ChannelItem channel)))) (sym (next_channel h top tables channel))
-      (then_finds (channel_finding (heads h top tables.globals) channel) _
-      (λ (entry : ChannelEntry). LabelThere h kept.written channel.label entry.label × (entry.direction ≡ channel.direction)) _
-      (channel_there h top tables.globals kept.written (known_globals h top shape nodes tables kept) channel) (λ entry there. record {
+  item_kept shape nodes tables (ChannelItem at way label called) is kept =
+      subst (λ found. IfOk found (AreWellFormedTables h top (shape_with shape (ChannelItem at way label called)) (nodes + tree.item_nodes (ChannelItem at way label called)))) (sym (next_channel h top tables (record { at = at; direction = way; label = label; name = called })))
+      (then_finds (channel_finding (heads h top tables.globals) (record { at = at; direction = way; label = label; name = called })) _
+      (λ (entry : ChannelEntry). LabelThere h kept.written label entry.label × (entry.direction ≡ way)) _
+      (channel_there h top tables.globals kept.written (known_globals h top shape nodes tables kept) (record { at = at; direction = way; label = label; name = called })) (λ entry there. record {
         directions = map_push way_of tables.channels entry ∙ (λ i. kept.directions i ++ there.1 i ∷ []);
         exceptions = kept.exceptions;
         variables = kept.variables;
@@ -414,11 +414,11 @@ module _ (placed : ℕ → Type 0) (word : List ℕ → Type 0) (h : PrincipalHi
     channels_of = kept.channels_of;
     globals_of = kept.globals_of;
   }
-  item_kept shape nodes tables (GlobalItem global) is kept =
-      subst (λ found. IfOk found (AreWellFormedTables h top (shape_with shape (GlobalItem global)) (nodes + tree.item_nodes (GlobalItem global)))) (sym (next_global h top tables global))
-      (then_finds (global_finding (heads h top tables.globals) global) _
-      (λ (entry : GlobalEntry). (global_fits h entry ≡ true) × (variable_of entry ≡ declared_variable global) × LabelThere h kept.written global.label entry.label) _
-      (global_there h top tables.globals kept.written (known_globals h top shape nodes tables kept) global) (λ entry there. record {
+  item_kept shape nodes tables (GlobalItem at typed label called value) is kept =
+      subst (λ found. IfOk found (AreWellFormedTables h top (shape_with shape (GlobalItem at typed label called value)) (nodes + tree.item_nodes (GlobalItem at typed label called value)))) (sym (next_global h top tables (record { at = at; base = typed; label = label; name = called; value = value })))
+      (then_finds (global_finding (heads h top tables.globals) (record { at = at; base = typed; label = label; name = called; value = value })) _
+      (λ (entry : GlobalEntry). (global_fits h entry ≡ true) × (variable_of entry ≡ declared_variable (record { at = at; base = typed; label = label; name = called; value = value })) × LabelThere h kept.written label entry.label) _
+      (global_there h top tables.globals kept.written (known_globals h top shape nodes tables kept) (record { at = at; base = typed; label = label; name = called; value = value })) (λ entry there. record {
         directions = kept.directions;
         exceptions = kept.exceptions;
         variables = map_push variable_of tables.globals entry ∙ (λ i. kept.variables i ++ there.1 i ∷ []);
@@ -493,17 +493,17 @@ mapped_cells (entry ∷ globals) =
 cells_kept : (shape : Shape) (cells : ℕ) (items : List ItemTree) → cells ≡ sum_by variable_cells shape.variables → cells ≤ MAX_CELLS
     → IfOk (along next_global_cells cells items) (λ all. (all ≡ sum_by variable_cells (shape_all shape items).variables) × (all ≤ MAX_CELLS))
 cells_kept shape cells [] e few = (e, few)
-cells_kept shape cells (ChannelItem channel ∷ items) e few = cells_kept (shape_with shape (ChannelItem channel)) cells items e few
+cells_kept shape cells (ChannelItem at way label called ∷ items) e few = cells_kept (shape_with shape (ChannelItem at way label called)) cells items e few
 cells_kept shape cells (ExceptionItem at name ∷ items) e few = cells_kept (shape_with shape (ExceptionItem at name)) cells items e few
 cells_kept shape cells (ProcedureItem procedure ∷ items) e few = cells_kept (shape_with shape (ProcedureItem procedure)) cells items e few
-cells_kept shape cells (GlobalItem global ∷ items) e few =
-    let next = cells + cell_count (size_of global.value) in
-    then_finds (give_if (nat_le next MAX_CELLS) next _ global.name.at) (λ more. along next_global_cells more items)
-    (λ more. (more ≡ sum_by variable_cells (shape_with shape (GlobalItem global)).variables) × (more ≤ MAX_CELLS)) _
-    (if_finds (nat_le next MAX_CELLS) next _ global.name.at
-    (λ more. (more ≡ sum_by variable_cells (shape_with shape (GlobalItem global)).variables) × (more ≤ MAX_CELLS))
-    (λ within. (omega (arith, e, sum_by_push variable_cells shape.variables (declared_variable global)), leb-true next MAX_CELLS within)))
-    (λ more parts. cells_kept (shape_with shape (GlobalItem global)) more items parts.0 parts.1)
+cells_kept shape cells (GlobalItem at typed label called value ∷ items) e few =
+    let next = cells + cell_count (size_of value) in
+    then_finds (give_if (nat_le next MAX_CELLS) next _ called.at) (λ more. along next_global_cells more items)
+    (λ more. (more ≡ sum_by variable_cells (shape_with shape (GlobalItem at typed label called value)).variables) × (more ≤ MAX_CELLS)) _
+    (if_finds (nat_le next MAX_CELLS) next _ called.at
+    (λ more. (more ≡ sum_by variable_cells (shape_with shape (GlobalItem at typed label called value)).variables) × (more ≤ MAX_CELLS))
+    (λ within. (omega (arith, e, sum_by_push variable_cells shape.variables (declared_variable (record { at = at; base = typed; label = label; name = called; value = value }))), leb-true next MAX_CELLS within)))
+    (λ more parts. cells_kept (shape_with shape (GlobalItem at typed label called value)) more items parts.0 parts.1)
 
 frames_kept : (one : Unit {0}) (procedures : List ProcedureEntry) → IfOk (along next_frame one procedures) (λ done. list_all frame_fits procedures ≡ true)
 frames_kept one [] = refl

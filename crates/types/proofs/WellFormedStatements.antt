@@ -268,17 +268,17 @@ module _ (program : Program) (procedure : ProcedureEntry) (setting : Setting) wh
         → IfOk (call_finding setting.signatures names call) (IsWellFormedCall names (tree.call_nodes call))
     unfolding call_finding arguments_finding
     call_keeps names call written =
-        then_finds (use_as (item_of Procedure) (names call.procedure.text) call.procedure.at) _
+        then_finds (use_as (item_of Procedure) (names call.0.text) call.0.at) _
         (λ number. MeansHere names → Stands program procedure setting.signatures (meanings.Item Procedure number)) _
-        (item_found program procedure setting.signatures Procedure names call.procedure) (λ number stands.
+        (item_found program procedure setting.signatures Procedure names call.0) (λ number stands.
         let signature = signature_at setting.signatures number in
-        then_finds (require (length signature.parameters == length call.arguments) _ call.procedure.at) _
-        (λ one. (length signature.parameters == length call.arguments) ≡ true) _
-        (require_finds (length signature.parameters == length call.arguments) _ call.procedure.at) (λ one same.
-        then_finds (along (next_argument names signature.parameters) [] call.arguments) _
-        (AreWellFormedArguments names signature.parameters (0 + sum_by tree.expression_nodes call.arguments)) _
-        (arguments_keep names signature.parameters [] signature.parameters [] call.arguments 0 refl
-        (record { fit = λ means. refl; long = refl; few = omega arith }) (eqb-true (length signature.parameters) (length call.arguments) same) written.1)
+        then_finds (require (length signature.parameters == length call.1) _ call.0.at) _
+        (λ one. (length signature.parameters == length call.1) ≡ true) _
+        (require_finds (length signature.parameters == length call.1) _ call.0.at) (λ one same.
+        then_finds (along (next_argument names signature.parameters) [] call.1) _
+        (AreWellFormedArguments names signature.parameters (0 + sum_by tree.expression_nodes call.1)) _
+        (arguments_keep names signature.parameters [] signature.parameters [] call.1 0 refl
+        (record { fit = λ means. refl; long = refl; few = omega arith }) (eqb-true (length signature.parameters) (length call.1) same) written.1)
         (λ arguments kept. record {
           there =
               λ means. let (callee, found, signed) = stands means in (
@@ -344,7 +344,7 @@ module _ (program : Program) (procedure : ProcedureEntry) (setting : Setting) wh
         }))
     assigned_keeps names at target base (CalledTree call) written =
         then_finds (call_finding setting.signatures names call) _ (IsWellFormedCall names (tree.call_nodes call)) _ (call_keeps names call written) (λ made kept.
-        if_finds (gives_base base made.2) (Call at made.0 made.1 (Some target)) _ call.procedure.at _ (λ given. record {
+        if_finds (gives_base base made.2) (Call at made.0 made.1 (Some target)) _ call.0.at _ (λ given. record {
           fits =
               λ means e. call_passes made (Some target) (kept.there means) (λ callee same.
               scalar_passes target base (λ base. has_result callee.result (same_base base)) e
@@ -417,7 +417,7 @@ module _ (program : Program) (procedure : ProcedureEntry) (setting : Setting) wh
     call_statement_keeps point call written =
         then_finds (call_finding setting.signatures point.names call) _ (IsWellFormedCall point.names (tree.call_nodes call)) _
         (call_keeps point.names call written) (λ made kept.
-        plain_keeps point (1 + tree.call_nodes call) (Call call.procedure.at made.0 made.1 None) (record {
+        plain_keeps point (1 + tree.call_nodes call) (Call call.0.at made.0 made.1 None) (record {
           fits = λ means. call_passes made None (kept.there means) (λ callee same. refl);
           no_loops = refl;
           few = omega (arith, kept.few);
@@ -533,7 +533,7 @@ module _ (program : Program) (procedure : ProcedureEntry) (setting : Setting) wh
           (local_label_there point label) (λ written there.
           then_finds (fresh_finding (point.names name.text) name.at) _ (λ one. Unit {0}) _ (any_finds (fresh_finding (point.names name.text) name.at)) (λ one nothing.
           then_finds (size_finding size) _ (λ length_of. size_fits (Some length_of) ≡ true) _
-          (if_finds (nat_lt 0 size.size && nat_le size.size MAX_ELEMENTS) size.size _ size.at _ (λ fit. fit)) (λ length_of fit.
+          (if_finds (nat_lt 0 size.1 && nat_le size.1 MAX_ELEMENTS) size.1 _ size.0 _ (λ fit. fit)) (λ length_of fit.
           let slot = slot_of at base written name.text (Some length_of) in
           record {
             more = slot ∷ [];

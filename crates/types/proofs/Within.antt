@@ -10,9 +10,9 @@ use Rattle.syntax.specs.Tree.{ItemTree, ChannelItem, ExceptionItem, GlobalItem, 
 use Rattle.syntax.specs.Written.{IsInteger, IsWrittenItem}
 
 item_costs : (item : ItemTree) → 1 ≤ item_nodes item
-item_costs (ChannelItem channel) = omega arith
+item_costs (ChannelItem at way label called) = omega arith
 item_costs (ExceptionItem at name) = omega arith
-item_costs (GlobalItem global) = omega arith
+item_costs (GlobalItem at typed label called value) = omega arith
 item_costs (ProcedureItem procedure) = omega arith
 
 trees_within : (items : List ItemTree) → length items ≤ sum_by item_nodes items

@@ -1,7 +1,7 @@
 -- What names stand for at a point of a program, and what each use of a name asks of it.
 -- Source: our own, environments in the usual sense. Channels, exceptions, globals and procedures share one space of names, in which
 -- `Arith`, `Bounds` and `End` are declared from the start; the parameters and locals of a procedure join it in its body.
-use Rattle.std.specs.Prelude.{ℕ, List, Option, Some, None, bytes_eq, is_none, option_map, if◌then◌else◌}
+use Rattle.std.specs.Prelude.{ℕ, List, Option, Some, None, Err, bytes_eq, is_none, option_map, if◌then◌else◌}
 use Rattle.common.specs.declared.base_type.BaseType.{BaseType}
 use Rattle.resolved.specs.declared.expression.Variable.{Variable}
 use Rattle.types.specs.declared.fault.TypeRefusalKind.TheVariants as refusals
@@ -9,7 +9,7 @@ use Rattle.types.specs.declared.scope.ItemKind.{ItemKind}
 use Rattle.types.specs.contracts.scope.ItemKindPartialEq.TheImpl.{eq-value}
 use Rattle.types.specs.declared.scope.Meaning.{Meaning}
 use Rattle.types.specs.declared.scope.Meaning.TheVariants as meanings
-use Rattle.types.specs.Finding.{Finding, refuse, require, found_or}
+use Rattle.types.specs.Finding.{Finding, require, found_or}
 
 -- what each name stands for, if it is in scope
 abbrev pub Environment : Type 0
@@ -27,7 +27,7 @@ fresh_finding found at = require (is_none found) refusals.DeclaredTwice at
 
 -- a name at a place that wants something of what it stands for: 301 where it is not in scope, 403 where it stands for something else
 unfoldable pub use_as : {A : Type 0} → (Meaning → Option A) → Option Meaning → (at : ℕ) → Finding A
-use_as wanted None at = refuse refusals.UnknownName at
+use_as wanted None at = Err (record { kind = refusals.UnknownName; at = at })
 use_as wanted (Some meaning) at = found_or refusals.WrongUse at (wanted meaning)
 
 -- an item of a kind, by its number

@@ -8,6 +8,29 @@ use Rattle.common.specs.declared.refusal.RefusalAt.{RefusalAt}
 abbrev pub Finding : Type 0 → Type 0
 Finding A = Result A (RefusalAt TypeRefusalKind)
 
+-- something else is given, made of what is found
+infixl 5 ◌gives◌
+abbrev pub ◌gives◌ : {A B : Type 0} → Finding A → (A → B) → Finding B
+finding gives f = finding >>= λ x. Ok (f x)
+
+-- what is there, else a refusal
+abbrev pub found_or : {A : Type 0} → TypeRefusalKind → (at : ℕ) → Option A → Finding A
+found_or kind at found = ok_or found (record { kind = kind; at = at })
+
+-- a thing where a test holds, else a refusal
+abbrev pub give_if : {A : Type 0} → Bool → A → TypeRefusalKind → (at : ℕ) → Finding A
+give_if test x kind at = if test then Ok x else Err (record { kind = kind; at = at })
+
+-- nothing but that a test holds
+abbrev pub require : Bool → TypeRefusalKind → (at : ℕ) → Finding (Unit {0})
+require test kind at = give_if test tt kind at
+
+-- what is found of each element, in their order
+abbrev pub of_each : {X A : Type 0} → (X → Finding A) → List X → Finding (List A)
+of_each look xs = along (λ found x. look x gives λ made. found ++ made ∷ []) [] xs
+
+-- ---- parts, by which code and proofs speak of them
+
 abbrev pub give : {A : Type 0} → A → Finding A
 give x = Ok x
 
@@ -18,21 +41,6 @@ refuse kind at = Err (record { kind = kind; at = at })
 abbrev pub IsRefusalOf : {A : Type 0} → Finding A → RefusalAt TypeRefusalKind → Type 0
 IsRefusalOf finding refusal = finding ≡ Err refusal
 
--- what is there, else a refusal
-abbrev pub found_or : {A : Type 0} → TypeRefusalKind → (at : ℕ) → Option A → Finding A
-found_or kind at found = ok_or found (record { kind = kind; at = at })
-
--- a thing where a test holds, else a refusal
-abbrev pub give_if : {A : Type 0} → Bool → A → TypeRefusalKind → (at : ℕ) → Finding A
-give_if test x kind at = if test then give x else refuse kind at
-
--- nothing but that a test holds
-abbrev pub require : Bool → TypeRefusalKind → (at : ℕ) → Finding (Unit {0})
-require test kind at = give_if test tt kind at
-
--- what is found of each element, in their order
+-- what is found so far, and what is found of one element more
 abbrev pub put_last : {X A : Type 0} → (X → Finding A) → List A → X → Finding (List A)
-put_last look found x = look x >>= λ made. give (found ++ made ∷ [])
-
-abbrev pub of_each : {X A : Type 0} → (X → Finding A) → List X → Finding (List A)
-of_each look xs = along (put_last look) [] xs
+put_last look found x = look x gives λ made. found ++ made ∷ []

@@ -1,7 +1,7 @@
 -- The label that a written label stands for: each principal by its number (303 where the hierarchy lacks it), each variable replaced
 -- by the policies of its own label, in canonical form. What is refused stands where its name does, from the left.
 -- Source: our own; labels after Myers and Liskov 1997/2000.
-use Rattle.std.specs.Prelude.{ℕ, List, [], ◌∷◌, ◌++◌, Option, Some, None, slice_get}
+use Rattle.std.specs.Prelude.{ℕ, List, [], ◌∷◌, ◌++◌, Option, Some, None, Ok, slice_get}
 use Rattle.principals.specs.ActsFor.{PrincipalHierarchy, number_of}
 use Rattle.labels.specs.Label.{ReaderPolicy, Label}
 use Rattle.labels.specs.Canonical.{written_policy, written_label}
@@ -12,7 +12,7 @@ use Rattle.syntax.specs.Tree.{NameTree, ComponentTree, PolicyComponent, Variable
 use Rattle.types.specs.declared.fault.TypeRefusalKind.TheVariants as refusals
 use Rattle.types.specs.Environment.{Environment, use_as, variable_of}
 use Rattle.common.specs.Results.{along, ◌>>=◌}
-use Rattle.types.specs.Finding.{Finding, give, found_or, of_each}
+use Rattle.types.specs.Finding.{Finding, ◌gives◌, found_or, of_each}
 
 -- what a label may name where it stands: the principals, and the variables among the names in scope, of which the globals are those
 -- that are declared before it, and the slots those of the parameters and locals
@@ -30,16 +30,14 @@ principal_finding h name = found_or refusals.UnknownPrincipal name.at (number_of
 unfoldable pub policy_finding : PrincipalHierarchy → (owner : NameTree) (readers : List NameTree) → Finding ReaderPolicy
 policy_finding h owner readers = do
   number ← principal_finding h owner
-  numbers ← of_each (principal_finding h) readers
-  give (written_policy number numbers)
+  of_each (principal_finding h) readers gives written_policy number
 
 -- ---- the labels of variables
 
 -- of a global, which is declared before (301), or of a parameter or local, whose label is written (305)
 unfoldable pub variable_label_finding : LabelScope → Variable → (at : ℕ) → Finding Label
-variable_label_finding scope (Global number) at = do
-  global ← found_or refusals.UnknownName at (slice_get scope.globals number)
-  give global.label
+variable_label_finding scope (Global number) at =
+    found_or refusals.UnknownName at (slice_get scope.globals number) gives λ global. global.label
 variable_label_finding scope (Local number) at = do
   slot ← found_or refusals.UnknownName at (slice_get scope.slots number)
   found_or refusals.LabelNotWritten at slot.written
@@ -47,27 +45,22 @@ variable_label_finding scope (Local number) at = do
 -- ---- labels
 
 unfoldable pub component_finding : LabelScope → ComponentTree → Finding (List ReaderPolicy)
-component_finding scope (PolicyComponent owner readers) = do
-  policy ← policy_finding scope.hierarchy owner readers
-  give (policy ∷ [])
+component_finding scope (PolicyComponent owner readers) = policy_finding scope.hierarchy owner readers gives λ policy. policy ∷ []
 component_finding scope (VariableComponent name) = do
   variable ← use_as variable_of (scope.names name.text) name.at
   variable_label_finding scope variable name.at
 
 unfoldable pub label_finding : LabelScope → LabelTree → Finding Label
-label_finding scope label = do
-  policies ← along (λ found component. component_finding scope component >>= λ more. give (found ++ more)) [] label.components
-  give (written_label policies)
+label_finding scope label =
+    along (λ found component. component_finding scope component gives λ more. found ++ more) [] label.components gives written_label
 
 -- a label that may be left out
 unfoldable pub optional_label_finding : LabelScope → Option LabelTree → Finding (Option Label)
-optional_label_finding scope None = give None
-optional_label_finding scope (Some label) = do
-  written ← label_finding scope label
-  give (Some written)
+optional_label_finding scope None = Ok None
+optional_label_finding scope (Some label) = label_finding scope label gives Some
 
 -- ---- a part of the rules, by which proofs speak of them
 
 -- the policies of one component more
 abbrev pub next_component : LabelScope → List ReaderPolicy → ComponentTree → Finding (List ReaderPolicy)
-next_component scope found component = component_finding scope component >>= λ more. give (found ++ more)
+next_component scope found component = component_finding scope component gives λ more. found ++ more

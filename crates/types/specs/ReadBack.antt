@@ -6,12 +6,13 @@
 use Rattle.std.specs.Prelude.{◌≡◌, ℕ, List, [], ◌∷◌, ◌++◌, length, map, Bool, Option, Some, None, if◌then◌else◌, bytes_eq, slice_get}
 use Rattle.principals.specs.ActsFor.{PrincipalHierarchy}
 use Rattle.common.specs.declared.base_type.BaseType.{BaseType}
+use Rattle.common.specs.declared.direction.Direction.{Direction}
 use Rattle.common.specs.declared.operator.Prefix.{Prefix}
 use Rattle.common.specs.declared.operator.Comparison.TheVariants.{Matched}
 use Rattle.common.specs.declared.operator.Connective.{Connective}
 use Rattle.syntax.specs.declared.tree.BinaryOperator.{BinaryOperator}
 use Rattle.syntax.specs.declared.tree.BinaryOperator.TheVariants as binary
-use Rattle.syntax.specs.Tree.{NameTree, LabelTree, ExpressionTree, IntegerTree, TruthTree, VariableTree, ElementTree, UnaryTree, BinaryTree, CallTree, RightTree, ReceivedTree, CalledTree, ValueTree, SizeTree, StatementTree, DeclareTree, DeclareArrayTree, AssignTree, AssignElementTree, CallTree', ReceiveTree, SendTree, IfTree, WhileTree, BreakTree, ContinueTree, ThrowTree, ReturnTree, TryTree, NestedTree, BlockTree, BlockOf, StatementTrees, NoStatement, StatementThen, CatchTrees, NoCatch, CatchThen, ChannelTree, GlobalTree, ParameterTree, ThrownTree, ProcedureTree, ItemTree, ChannelItem, ExceptionItem, GlobalItem, ProcedureItem, ProgramTree}
+use Rattle.syntax.specs.Tree.{NameTree, LabelTree, ExpressionTree, IntegerTree, TruthTree, VariableTree, ElementTree, UnaryTree, BinaryTree, CallTree, RightTree, ReceivedTree, CalledTree, ValueTree, SizeTree, StatementTree, DeclareTree, DeclareArrayTree, AssignTree, AssignElementTree, CallTree', ReceiveTree, SendTree, IfTree, WhileTree, BreakTree, ContinueTree, ThrowTree, ReturnTree, TryTree, NestedTree, BlockTree, BlockOf, StatementTrees, NoStatement, StatementThen, CatchTrees, NoCatch, CatchThen, GlobalValueTree, ParameterTree, ThrownTree, ProcedureTree, ItemTree, ChannelItem, ExceptionItem, GlobalItem, ProcedureItem, ProgramTree}
 use Rattle.resolved.specs.declared.expression.Variable.{Variable}
 use Rattle.resolved.specs.declared.expression.Variable.TheVariants.{Global, Local}
 use Rattle.resolved.specs.declared.expression.Operator.{Operator}
@@ -122,8 +123,8 @@ pub data ReadsArguments (program : Program) (scope : NameScope) : List Expressio
 pub data ReadsRight (program : Program) (scope : NameScope) (at : ℕ) (x : Variable) : RightTree → Statement → Type 0 where
   ReadReceived : {receive_at n : ℕ} {channel : NameTree} → IsChannel program scope channel n
       → ReadsRight program scope at x (ReceivedTree receive_at channel) (Receive at n (Some x))
-  ReadCalled : {call : CallTree} {n : ℕ} {es : List Expression} → IsProcedure program scope call.procedure n
-      → ReadsArguments program scope call.arguments es → ReadsRight program scope at x (CalledTree call) (Call at n es (Some x))
+  ReadCalled : {call : CallTree} {n : ℕ} {es : List Expression} → IsProcedure program scope call.0 n
+      → ReadsArguments program scope call.1 es → ReadsRight program scope at x (CalledTree call) (Call at n es (Some x))
   ReadValue : {value : ExpressionTree} {e : Expression} → ReadsExpression program scope value e
       → ReadsRight program scope at x (ValueTree value) (Assign at x e)
 
@@ -143,9 +144,9 @@ mutual
     ReadStore : {scope : NameScope} {array : NameTree} {a : Variable} {size : ℕ} {index value : ExpressionTree} {i e : Expression}
         → IsVariable program scope array a → ReadsExpression program scope index i → ReadsExpression program scope value e
         → ReadsStatement program scope (AssignElementTree array index value) (Store array.at a size i e) scope
-    ReadCall : {scope : NameScope} {call : CallTree} {n : ℕ} {es : List Expression} → IsProcedure program scope call.procedure n
-        → ReadsArguments program scope call.arguments es
-        → ReadsStatement program scope (CallTree' call) (Call call.procedure.at n es None) scope
+    ReadCall : {scope : NameScope} {call : CallTree} {n : ℕ} {es : List Expression} → IsProcedure program scope call.0 n
+        → ReadsArguments program scope call.1 es
+        → ReadsStatement program scope (CallTree' call) (Call call.0.at n es None) scope
     ReadReceive : {scope : NameScope} {at n : ℕ} {channel : NameTree} → IsChannel program scope channel n
         → ReadsStatement program scope (ReceiveTree at channel) (Receive at n None) scope
     ReadSend : {scope : NameScope} {at n : ℕ} {channel : NameTree} {value : ExpressionTree} {e : Expression}
@@ -196,7 +197,7 @@ mutual
 pub data ReadsThrows (program : Program) : List ThrownTree → List ThrownEntry → Type 0 where
   ReadNoThrown : ReadsThrows program [] []
   ReadThrown : {thrown : ThrownTree} {entry : ThrownEntry} {rest : List ThrownTree} {entries : List ThrownEntry}
-      → IsException program top_scope thrown.name entry.exception → ReadsThrows program rest entries
+      → IsException program top_scope thrown.0 entry.exception → ReadsThrows program rest entries
       → ReadsThrows program (thrown ∷ rest) (entry ∷ entries)
 
 -- the scope in which a body begins
@@ -222,15 +223,15 @@ pub record ReadsProcedure (program : Program) (written : ProcedureTree) (entry :
 -- the items of a program: each table has those of its kind in the order of the text, and these are the names in three of them
 pub data ReadsItems (program : Program) : List ItemTree → (channels exceptions globals : List (List ℕ)) → List ProcedureEntry → Type 0 where
   ReadNoItem : ReadsItems program [] [] [] [] []
-  ReadChannel : {channel : ChannelTree} {items : List ItemTree} {channels exceptions globals : List (List ℕ)}
+  ReadChannel : {at : ℕ} {direction : Direction} {label : LabelTree} {name : NameTree} {items : List ItemTree} {channels exceptions globals : List (List ℕ)}
       {procedures : List ProcedureEntry} → ReadsItems program items channels exceptions globals procedures
-      → ReadsItems program (ChannelItem channel ∷ items) (channel.name.text ∷ channels) exceptions globals procedures
+      → ReadsItems program (ChannelItem at direction label name ∷ items) (name.text ∷ channels) exceptions globals procedures
   ReadException : {at : ℕ} {name : NameTree} {items : List ItemTree} {channels exceptions globals : List (List ℕ)}
       {procedures : List ProcedureEntry} → ReadsItems program items channels exceptions globals procedures
       → ReadsItems program (ExceptionItem at name ∷ items) channels (name.text ∷ exceptions) globals procedures
-  ReadGlobal : {global : GlobalTree} {items : List ItemTree} {channels exceptions globals : List (List ℕ)}
+  ReadGlobal : {at : ℕ} {base : BaseType} {label : LabelTree} {name : NameTree} {value : GlobalValueTree} {items : List ItemTree} {channels exceptions globals : List (List ℕ)}
       {procedures : List ProcedureEntry} → ReadsItems program items channels exceptions globals procedures
-      → ReadsItems program (GlobalItem global ∷ items) channels exceptions (global.name.text ∷ globals) procedures
+      → ReadsItems program (GlobalItem at base label name value ∷ items) channels exceptions (name.text ∷ globals) procedures
   ReadProcedure : {written : ProcedureTree} {entry : ProcedureEntry} {items : List ItemTree}
       {channels exceptions globals : List (List ℕ)} {procedures : List ProcedureEntry} → ReadsProcedure program written entry
       → ReadsItems program items channels exceptions globals procedures

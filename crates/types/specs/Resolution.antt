@@ -1,13 +1,13 @@
 -- The resolved program that a syntax tree stands for under a hierarchy, or the first fault: first the names of the items, then the
 -- items, each from left to right with its body, then `main` (304), and last the cells of the globals and of each procedure (704).
 -- Source: our own; what is left out of the labels of a procedure as in JFlow (Myers 1999).
-use Rattle.std.specs.Prelude.{ℕ, ◌+◌, List, [], ◌∷◌, ◌++◌, map, fold, length, sum_by, Bool, not, ◌==◌, ◌&&◌, nat_le, if◌then◌else◌, codes, is_none, Option, Some, None, unwrap_or, option_and_then, slice_get, ℤ, pos, neg_ℤ}
+use Rattle.std.specs.Prelude.{ℕ, ◌+◌, List, [], ◌∷◌, ◌++◌, map, fold, length, sum_by, Bool, not, ◌==◌, ◌&&◌, nat_le, if◌then◌else◌, codes, is_none, Option, Some, None, Ok, unwrap_or, option_and_then, option_map, slice_get, ℤ, pos, neg_ℤ}
 use Rattle.common.specs.declared.exceptions.TheConstants.{ARITH, ARITH_NAME, BOUNDS, BOUNDS_NAME, END, END_NAME, BUILT_IN}
 use Rattle.std.specs.List.{list_any}
 use Rattle.principals.specs.ActsFor.{PrincipalHierarchy}
 use Rattle.labels.specs.Label.{Label}
-use Rattle.labels.specs.Canonical.{joined}
-use Rattle.syntax.specs.Tree.{NameTree, IntegerConstant, TruthConstant, GlobalValueTree, ScalarTree, ArrayTree, GlobalTree, ChannelTree, WrittenResultTree, NothingTree, ResultTree, ParameterTree, ThrownTree, ProcedureTree, ItemTree, ChannelItem, ExceptionItem, GlobalItem, ProcedureItem, ProgramTree}
+use Rattle.labels.specs.Canonical.{written_label, joined}
+use Rattle.syntax.specs.Tree.{NameTree, LabelTree, IntegerConstant, TruthConstant, GlobalValueTree, ScalarTree, ArrayTree, GlobalTree, ChannelTree, ParameterTree, ProcedureTree, ItemTree, ChannelItem, ExceptionItem, GlobalItem, ProcedureItem, ProgramTree}
 use Rattle.common.specs.declared.base_type.BaseType.{BaseType}
 use Rattle.common.specs.declared.base_type.BaseType.TheVariants.{Int, Boolean}
 use Rattle.resolved.specs.declared.expression.Value.{Value}
@@ -21,10 +21,10 @@ use Rattle.types.specs.declared.scope.ItemKind.TheVariants.{Channel, Exception, 
 use Rattle.types.specs.declared.scope.Meaning.{Meaning}
 use Rattle.types.specs.declared.scope.Meaning.TheVariants as meanings
 use Rattle.common.specs.Results.{along, ◌>>=◌}
-use Rattle.types.specs.Finding.{Finding, give, found_or, give_if, require}
+use Rattle.types.specs.Finding.{Finding, ◌gives◌, found_or, give_if, require}
 use Rattle.types.specs.Environment.{Environment, declaring, fresh_finding, use_as, item_of}
 use Rattle.types.specs.Labels.{LabelScope, label_finding, optional_label_finding}
-use Rattle.types.specs.Statements.{Signature, Setting, Point, with_local, slot_of, size_finding, block_finding}
+use Rattle.types.specs.Statements.{Signature, Setting, Point, with_variable, size_finding, block_finding}
 use Rattle.common.specs.declared.limits.TheConstants.{MAX_CELLS}
 
 -- ---- the names of the items
@@ -51,29 +51,26 @@ built_in = record {
 -- the length of a global that is an array
 abbrev pub size_of : GlobalValueTree → Option ℕ
 size_of (ScalarTree constant) = None
-size_of (ArrayTree size) = Some size.size
+size_of (ArrayTree size) = Some size.1
 
-abbrev pub result_base_of : WrittenResultTree → Option BaseType
-result_base_of NothingTree = None
-result_base_of (ResultTree base label) = Some base
+abbrev pub result_base_of : Option (BaseType × LabelTree) → Option BaseType
+result_base_of result = option_map (λ (base, label). base) result
 
 abbrev pub signature_of : ProcedureTree → Signature
-signature_of written =
-    record { parameters = map (λ (one : ParameterTree). one.base) written.parameters; result = result_base_of written.result }
+signature_of tree = record { parameters = map (λ (one : ParameterTree). one.base) tree.parameters; result = result_base_of tree.result }
 
 -- the top level with one more name, which nothing in scope has
 abbrev pub with_name : TopLevel → NameTree → Meaning → Finding TopLevel
-with_name top name meaning = do
-  _ ← fresh_finding (top.names name.text) name.at
-  give (record top { names = declaring name.text meaning top.names })
+with_name top name meaning =
+    fresh_finding (top.names name.text) name.at gives λ _. record top { names = declaring name.text meaning top.names }
 
 -- the top level with the next item, which takes the next number of its kind
 unfoldable pub next_name : TopLevel → ItemTree → Finding TopLevel
-next_name top (ChannelItem channel) =
-    with_name (record top { channels = top.channels + 1 }) channel.name (meanings.Item (Channel channel.direction) top.channels)
+next_name top (ChannelItem at direction label name) =
+    with_name (record top { channels = top.channels + 1 }) name (meanings.Item (Channel direction) top.channels)
 next_name top (ExceptionItem at name) = with_name (record top { exceptions = top.exceptions + 1 }) name (meanings.Item Exception top.exceptions)
-next_name top (GlobalItem global) =
-    with_name (record top { globals = top.globals + 1 }) global.name (meanings.Variable (Global top.globals) global.base (size_of global.value))
+next_name top (GlobalItem at base label name value) =
+    with_name (record top { globals = top.globals + 1 }) name (meanings.Variable (Global top.globals) base (size_of value))
 next_name top (ProcedureItem procedure) =
     with_name (record top { signatures = top.signatures ++ signature_of procedure ∷ [] }) procedure.name
     (meanings.Item Procedure (length top.signatures))
@@ -88,34 +85,28 @@ heads h top globals = record { hierarchy = h; names = top.names; globals = globa
 unfoldable pub first_finding : BaseType → GlobalValueTree → Finding (Option ℕ × Value)
 first_finding base (ScalarTree (IntegerConstant at negative value)) =
     give_if (same_base Int base) (None, Number (if negative then neg_ℤ (pos value) else pos value)) refusals.WrongType at
-first_finding base (ScalarTree (TruthConstant at value)) =
-    give_if (same_base Boolean base) (None, Truth value) refusals.WrongType at
-first_finding base (ArrayTree size) = do
-  length_of ← size_finding size
-  give (Some length_of, zero_value base)
+first_finding base (ScalarTree (TruthConstant at value)) = give_if (same_base Boolean base) (None, Truth value) refusals.WrongType at
+first_finding base (ArrayTree size) = size_finding size gives λ length_of. (Some length_of, zero_value base)
 
 -- ---- procedures
 
-unfoldable pub result_finding : LabelScope → WrittenResultTree → Finding (Option ResultEntry)
-result_finding scope NothingTree = give None
-result_finding scope (ResultTree base label) = do
-  written ← label_finding scope label
-  give (Some (record { base = base; label = written }))
+unfoldable pub result_finding : LabelScope → Option (BaseType × LabelTree) → Finding (Option ResultEntry)
+result_finding scope None = Ok None
+result_finding scope (Some (base, label)) = label_finding scope label gives λ written. Some (record { base = base; label = written })
 
 -- a parameter, which takes the next slot and is in scope in the body; no label before the body names it
 abbrev pub next_parameter : LabelScope → Point → ParameterTree → Finding Point
 next_parameter scope point parameter = do
   label ← label_finding scope parameter.label
-  _ ← fresh_finding (point.names parameter.name.text) parameter.name.at
-  give (with_local point (slot_of parameter.at parameter.base (Some label) parameter.name.text None))
+  fresh_finding (point.names parameter.name.text) parameter.name.at
+      gives λ _. with_variable point parameter.at parameter.base (Some label) parameter.name.text None
 
 -- an exception that a procedure may let out, which is none of those that it names before (302)
-abbrev pub next_thrown : LabelScope → List ThrownEntry → ThrownTree → Finding (List ThrownEntry)
-next_thrown scope throws thrown = do
-  exception ← use_as (item_of Exception) (scope.names thrown.name.text) thrown.name.at
-  _ ← require (not (list_any (λ (one : ThrownEntry). one.exception == exception) throws)) refusals.DeclaredTwice thrown.name.at
-  label ← label_finding scope thrown.label
-  give (throws ++ record { exception = exception; label = label } ∷ [])
+abbrev pub next_thrown : LabelScope → List ThrownEntry → NameTree × LabelTree → Finding (List ThrownEntry)
+next_thrown scope throws (name, written) = do
+  exception ← use_as (item_of Exception) (scope.names name.text) name.at
+  _ ← require (not (list_any (λ (one : ThrownEntry). one.exception == exception) throws)) refusals.DeclaredTwice name.at
+  label_finding scope written gives λ label. throws ++ record { exception = exception; label = label } ∷ []
 
 -- a begin label that is left out is the least one; an end label that is left out is the join of the begin label and of those of the
 -- exceptions
@@ -127,19 +118,18 @@ procedure_entry_finding scope signatures procedure = do
   end ← optional_label_finding scope procedure.end
   throws ← along (next_thrown scope) [] procedure.throws
   let setting : Setting = record { outer = scope; signatures = signatures; result = result_base_of procedure.result }
-  inner ← block_finding setting point procedure.body
-  give (record {
+  block_finding setting point procedure.body gives λ inner. record {
     at = procedure.name.at;
     name = procedure.name.text;
     result = result;
     throws = throws;
     begin_label = unwrap_or begin [];
-    end_label = unwrap_or end (fold (λ label (thrown : ThrownEntry). joined label thrown.label) (unwrap_or begin []) throws);
+    end_label = unwrap_or end (fold (λ label (thrown : ThrownEntry). written_label (label ++ thrown.label)) (unwrap_or begin []) throws);
     parameters = length procedure.parameters;
     slots = inner.0.slots;
     loops = inner.0.loops;
     body = inner.1;
-  })
+  }
 
 -- ---- programs
 
@@ -150,19 +140,18 @@ empty_program =
 
 -- with the next item
 unfoldable pub next_item : PrincipalHierarchy → TopLevel → Program → ItemTree → Finding Program
-next_item h top tables (ChannelItem channel) = do
-  label ← label_finding (heads h top tables.globals) channel.label
-  let entry : ChannelEntry = record { direction = channel.direction; name = channel.name.text; label = label }
-  give (record tables { channels = tables.channels ++ entry ∷ [] })
-next_item h top tables (ExceptionItem at name) = give (record tables { exceptions = tables.exceptions ++ name.text ∷ [] })
-next_item h top tables (GlobalItem global) = do
-  label ← label_finding (heads h top tables.globals) global.label
-  (size, first) ← first_finding global.base global.value
-  let entry : GlobalEntry = record { name = global.name.text; base = global.base; size = size; label = label; first = first }
-  give (record tables { globals = tables.globals ++ entry ∷ [] })
-next_item h top tables (ProcedureItem procedure) = do
-  entry ← procedure_entry_finding (heads h top tables.globals) top.signatures procedure
-  give (record tables { procedures = tables.procedures ++ entry ∷ [] })
+next_item h top tables (ChannelItem at direction written name) = label_finding (heads h top tables.globals) written gives λ label. record tables {
+  channels = tables.channels ++ record { direction = direction; name = name.text; label = label } ∷ [];
+}
+next_item h top tables (ExceptionItem at name) = Ok (record tables { exceptions = tables.exceptions ++ name.text ∷ [] })
+next_item h top tables (GlobalItem at base written name value) = do
+  label ← label_finding (heads h top tables.globals) written
+  (size, first) ← first_finding base value
+  let entry : GlobalEntry = record { name = name.text; base = base; size = size; label = label; first = first }
+  Ok (record tables { globals = tables.globals ++ entry ∷ [] })
+next_item h top tables (ProcedureItem procedure) =
+    procedure_entry_finding (heads h top tables.globals) top.signatures procedure
+    gives λ entry. record tables { procedures = tables.procedures ++ entry ∷ [] }
 
 -- `main` is a procedure without parameters and a value; where it is none, the refusal stands at the begin of the text
 unfoldable pub main_finding : Option Meaning → List ProcedureEntry → Finding ℕ
@@ -173,11 +162,11 @@ main_finding main procedures = do
 
 -- the cells of the globals so far, with those of the next item
 abbrev pub next_global_cells : (cells : ℕ) → ItemTree → Finding ℕ
-next_global_cells cells (GlobalItem global) =
-    let total = cells + cell_count (size_of global.value) in give_if (nat_le total MAX_CELLS) total refusals.TooManyCells global.name.at
-next_global_cells cells (ChannelItem channel) = give cells
-next_global_cells cells (ExceptionItem at name) = give cells
-next_global_cells cells (ProcedureItem procedure) = give cells
+next_global_cells cells (GlobalItem at base label name value) =
+    let total = cells + cell_count (size_of value) in give_if (nat_le total MAX_CELLS) total refusals.TooManyCells name.at
+next_global_cells cells (ChannelItem at direction label name) = Ok cells
+next_global_cells cells (ExceptionItem at name) = Ok cells
+next_global_cells cells (ProcedureItem procedure) = Ok cells
 
 -- the cells of a frame
 abbrev pub next_frame : Unit {0} → ProcedureEntry → Finding (Unit {0})
@@ -191,8 +180,7 @@ resolution h program = do
   tables ← along (next_item h top) empty_program program.items
   main ← main_finding (top.names (codes "main")) tables.procedures
   _ ← along next_global_cells 0 program.items
-  _ ← along next_frame tt tables.procedures
-  give (record tables { hierarchy = h; main = main })
+  along next_frame tt tables.procedures gives λ _. record tables { hierarchy = h; main = main }
 
 -- ---- parts of the rules, by which proofs speak of them
 
@@ -213,31 +201,30 @@ joined_all label throws = fold (λ label (thrown : ThrownEntry). joined label th
 
 -- the name of an item, what it stands for, and the numbers after it
 abbrev pub item_name : ItemTree → NameTree
-item_name (ChannelItem channel) = channel.name
+item_name (ChannelItem at direction label name) = name
 item_name (ExceptionItem at name) = name
-item_name (GlobalItem global) = global.name
+item_name (GlobalItem at base label name value) = name
 item_name (ProcedureItem procedure) = procedure.name
 
 abbrev pub item_meaning : TopLevel → ItemTree → Meaning
-item_meaning top (ChannelItem channel) = meanings.Item (Channel channel.direction) top.channels
+item_meaning top (ChannelItem at direction label name) = meanings.Item (Channel direction) top.channels
 item_meaning top (ExceptionItem at name) = meanings.Item Exception top.exceptions
-item_meaning top (GlobalItem global) = meanings.Variable (Global top.globals) global.base (size_of global.value)
+item_meaning top (GlobalItem at base label name value) = meanings.Variable (Global top.globals) base (size_of value)
 item_meaning top (ProcedureItem procedure) = meanings.Item Procedure (length top.signatures)
 
 abbrev pub counted : TopLevel → ItemTree → TopLevel
-counted top (ChannelItem channel) = record top { channels = top.channels + 1 }
+counted top (ChannelItem at direction label name) = record top { channels = top.channels + 1 }
 counted top (ExceptionItem at name) = record top { exceptions = top.exceptions + 1 }
-counted top (GlobalItem global) = record top { globals = top.globals + 1 }
+counted top (GlobalItem at base label name value) = record top { globals = top.globals + 1 }
 counted top (ProcedureItem procedure) = record top { signatures = top.signatures ++ signature_of procedure ∷ [] }
 
 -- the entry of a channel, and of a global
 unfoldable pub channel_finding : LabelScope → ChannelTree → Finding ChannelEntry
-channel_finding scope channel = do
-  label ← label_finding scope channel.label
-  give (record { direction = channel.direction; name = channel.name.text; label = label })
+channel_finding scope channel =
+    label_finding scope channel.label gives λ label. record { direction = channel.direction; name = channel.name.text; label = label }
 
 unfoldable pub global_finding : LabelScope → GlobalTree → Finding GlobalEntry
 global_finding scope global = do
   label ← label_finding scope global.label
   (size, first) ← first_finding global.base global.value
-  give (record { name = global.name.text; base = global.base; size = size; label = label; first = first })
+  Ok (record { name = global.name.text; base = global.base; size = size; label = label; first = first })

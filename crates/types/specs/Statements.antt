@@ -2,10 +2,10 @@
 -- of names, 303 and 305 in labels, 401 of types, 402 where a call has too many or too few arguments, 703 where an array has a size that is
 -- none.
 -- Source: our own, block structure in the usual sense: a local's scope runs from the end of its declaration to the end of its block.
-use Rattle.std.specs.Prelude.{ℕ, ◌+◌, List, [], ◌∷◌, ◌++◌, length, Bool, false, ◌==◌, ◌&&◌, nat_lt, nat_le, is_none, Option, Some, None, slice_index_or}
+use Rattle.std.specs.Prelude.{ℕ, ◌+◌, List, [], ◌∷◌, ◌++◌, length, Bool, false, ◌==◌, ◌&&◌, nat_lt, nat_le, is_none, Option, Some, None, Ok, slice_index_or}
 use Rattle.labels.specs.Label.{Label}
 use Rattle.common.specs.declared.direction.Direction.TheVariants.{Input, Output}
-use Rattle.syntax.specs.Tree.{NameTree, LabelTree, ExpressionTree, CallTree, RightTree, ReceivedTree, CalledTree, ValueTree, SizeTree, StatementTree, DeclareTree, DeclareArrayTree, AssignTree, AssignElementTree, CallTree', ReceiveTree, SendTree, IfTree, WhileTree, BreakTree, ContinueTree, ThrowTree, ReturnTree, TryTree, NestedTree, BlockTree, BlockOf, StatementTrees, NoStatement, StatementThen, CatchTrees, NoCatch, CatchThen, expression_at}
+use Rattle.syntax.specs.Tree.{NameTree, LabelTree, ExpressionTree, RightTree, ReceivedTree, CalledTree, ValueTree, SizeTree, StatementTree, DeclareTree, DeclareArrayTree, AssignTree, AssignElementTree, CallTree', ReceiveTree, SendTree, IfTree, WhileTree, BreakTree, ContinueTree, ThrowTree, ReturnTree, TryTree, NestedTree, BlockTree, BlockOf, StatementTrees, NoStatement, StatementThen, CatchTrees, NoCatch, CatchThen, expression_at}
 use Rattle.common.specs.declared.base_type.BaseType.{BaseType}
 use Rattle.common.specs.declared.base_type.BaseType.TheVariants.{Int, Boolean}
 use Rattle.resolved.specs.declared.expression.Variable.{Variable}
@@ -18,7 +18,7 @@ use Rattle.types.specs.declared.fault.TypeRefusalKind.TheVariants as refusals
 use Rattle.types.specs.declared.scope.ItemKind.TheVariants.{Channel, Exception, Procedure}
 use Rattle.types.specs.declared.scope.Meaning.TheVariants as meanings
 use Rattle.common.specs.Results.{along, ◌>>=◌}
-use Rattle.types.specs.Finding.{Finding, give, give_if, require, put_last}
+use Rattle.types.specs.Finding.{Finding, ◌gives◌, give_if, require, put_last}
 use Rattle.types.specs.Environment.{Environment, declaring, fresh_finding, use_as, item_of, scalar_of, array_of}
 use Rattle.types.specs.Labels.{LabelScope, optional_label_finding}
 use Rattle.types.specs.Expressions.{expression_finding, typed_finding}
@@ -47,10 +47,10 @@ abbrev pub label_scope : Setting → Point → LabelScope
 label_scope setting point = record setting.outer { names = point.names; slots = point.slots }
 
 -- the point after the declaration of a local, which takes the next slot
-abbrev pub with_local : Point → SlotEntry → Point
-with_local point slot = record point {
-  names = declaring slot.name (meanings.Variable (Local (length point.slots)) slot.base slot.size) point.names;
-  slots = point.slots ++ slot ∷ [];
+abbrev pub with_variable : Point → (at : ℕ) → BaseType → Option Label → (name : List ℕ) → (size : Option ℕ) → Point
+with_variable point at base label name size = record point {
+  names = declaring name (meanings.Variable (Local (length point.slots)) base size) point.names;
+  slots = point.slots ++ record { base = base; size = size; written = label; at = at; name = name } ∷ [];
 }
 
 -- ---- calls and right sides
@@ -58,17 +58,17 @@ with_local point slot = record point {
 -- arguments, each at a place that wants the type of its parameter
 unfoldable pub arguments_finding : Environment → List BaseType → List ExpressionTree → Finding (List Expression)
 arguments_finding names parameters arguments =
-    along (λ found argument. put_last (typed_finding names (slice_index_or parameters (length found) Int)) found argument) [] arguments
+    along (λ found tree. typed_finding names (slice_index_or parameters (length found) Int) tree gives λ e. found ++ e ∷ []) [] arguments
 
 -- a call: its procedure, the arguments, and the type of its value, if it gives one. The count of the arguments is tested before they
 -- are looked at
-unfoldable pub call_finding : List Signature → Environment → CallTree → Finding (ℕ × List Expression × Option BaseType)
-call_finding signatures names call = do
-  procedure ← use_as (item_of Procedure) (names call.procedure.text) call.procedure.at
+unfoldable pub call_finding : List Signature → Environment → NameTree × List ExpressionTree
+    → Finding (ℕ × List Expression × Option BaseType)
+call_finding signatures names (name, written) = do
+  procedure ← use_as (item_of Procedure) (names name.text) name.at
   let signature = slice_index_or signatures procedure (record { parameters = []; result = None })
-  _ ← require (length signature.parameters == length call.arguments) refusals.WrongArgumentCount call.procedure.at
-  arguments ← arguments_finding names signature.parameters call.arguments
-  give (procedure, arguments, signature.result)
+  _ ← require (length signature.parameters == length written) refusals.WrongArgumentCount name.at
+  arguments_finding names signature.parameters written gives λ arguments. (procedure, arguments, signature.result)
 
 -- whether a procedure gives a value, and one of a type
 abbrev pub gives_base : BaseType → Option BaseType → Bool
@@ -80,23 +80,17 @@ gives_base base (Some given) = same_base given base
 unfoldable pub assigned_finding : List Signature → Environment → (at : ℕ) → Variable → BaseType → RightTree → Finding Statement
 assigned_finding signatures names at target base (ReceivedTree receive_at channel) = do
   _ ← require (same_base Int base) refusals.WrongType receive_at
-  number ← use_as (item_of (Channel Input)) (names channel.text) channel.at
-  give (Receive at number (Some target))
+  use_as (item_of (Channel Input)) (names channel.text) channel.at gives λ number. Receive at number (Some target)
 assigned_finding signatures names at target base (CalledTree call) = do
   (procedure, arguments, result) ← call_finding signatures names call
-  give_if (gives_base base result) (Call at procedure arguments (Some target)) refusals.WrongType call.procedure.at
-assigned_finding signatures names at target base (ValueTree value) = do
-  e ← typed_finding names base value
-  give (Assign at target e)
+  give_if (gives_base base result) (Call at procedure arguments (Some target)) refusals.WrongType call.0.at
+assigned_finding signatures names at target base (ValueTree value) = typed_finding names base value gives Assign at target
 
 -- ---- declarations
 
-abbrev pub slot_of : (at : ℕ) → BaseType → Option Label → List ℕ → (size : Option ℕ) → SlotEntry
-slot_of at base label name size = record { base = base; size = size; written = label; at = at; name = name }
-
 -- the size of an array: 1 to 65536
-unfoldable pub size_finding : SizeTree → Finding ℕ
-size_finding size = give_if (nat_lt 0 size.size && nat_le size.size MAX_ELEMENTS) size.size refusals.ArraySize size.at
+unfoldable pub size_finding : ℕ × ℕ → Finding ℕ
+size_finding (at, size) = give_if (nat_lt 0 size && nat_le size MAX_ELEMENTS) size refusals.ArraySize at
 
 -- ---- returns
 
@@ -115,79 +109,74 @@ unfoldable mutual
   statement_finding setting point (DeclareTree at base label name value) = do
     written ← optional_label_finding (label_scope setting point) label
     _ ← fresh_finding (point.names name.text) name.at
-    statement ← assigned_finding setting.signatures point.names at (Local (length point.slots)) base value
-    give (with_local point (slot_of at base written name.text None), statement)
+    assigned_finding setting.signatures point.names at (Local (length point.slots)) base value
+        gives λ statement. (with_variable point at base written name.text None, statement)
   statement_finding setting point (DeclareArrayTree at base label name size) = do
     written ← optional_label_finding (label_scope setting point) label
     _ ← fresh_finding (point.names name.text) name.at
-    length_of ← size_finding size
-    give (with_local point (slot_of at base written name.text (Some length_of)), Clear at (length point.slots))
+    size_finding size gives λ count. (with_variable point at base written name.text (Some count), Clear at (length point.slots))
   statement_finding setting point (AssignTree target value) = do
     (x, base) ← use_as scalar_of (point.names target.text) target.at
-    statement ← assigned_finding setting.signatures point.names target.at x base value
-    give (point, statement)
+    assigned_finding setting.signatures point.names target.at x base value gives λ statement. (point, statement)
   statement_finding setting point (AssignElementTree array index value) = do
     (a, base, size) ← use_as array_of (point.names array.text) array.at
     i ← typed_finding point.names Int index
-    e ← typed_finding point.names base value
-    give (point, Store array.at a size i e)
-  statement_finding setting point (CallTree' call) = do
-    (procedure, arguments, result) ← call_finding setting.signatures point.names call
-    give (point, Call call.procedure.at procedure arguments None)
-  statement_finding setting point (ReceiveTree at channel) = do
-    number ← use_as (item_of (Channel Input)) (point.names channel.text) channel.at
-    give (point, Receive at number None)
+    typed_finding point.names base value gives λ e. (point, Store array.at a size i e)
+  statement_finding setting point (CallTree' call) = call_finding setting.signatures point.names call
+      gives λ (procedure, arguments, result). (point, Call call.0.at procedure arguments None)
+  statement_finding setting point (ReceiveTree at channel) =
+      use_as (item_of (Channel Input)) (point.names channel.text) channel.at gives λ number. (point, Receive at number None)
   statement_finding setting point (SendTree at channel value) = do
     number ← use_as (item_of (Channel Output)) (point.names channel.text) channel.at
-    e ← typed_finding point.names Int value
-    give (point, Send at number e)
+    typed_finding point.names Int value gives λ e. (point, Send at number e)
   statement_finding setting point (IfTree at condition body otherwise) = do
     e ← typed_finding point.names Boolean condition
     inner ← block_finding setting point body
-    other ← block_finding setting inner.0 otherwise
-    give (other.0, If at e inner.1 other.1)
+    block_finding setting inner.0 otherwise gives λ other. (other.0, If at e inner.1 other.1)
   statement_finding setting point (WhileTree at condition body) = do
     e ← typed_finding point.names Boolean condition
-    inner ← block_finding setting (record point { loops = point.loops + 1 }) body
-    give (inner.0, While at point.loops e inner.1)
-  statement_finding setting point (BreakTree at) = give (point, Leave at exits.Break)
-  statement_finding setting point (ContinueTree at) = give (point, Leave at exits.Continue)
-  statement_finding setting point (ThrowTree at exception) = do
-    number ← use_as (item_of Exception) (point.names exception.text) exception.at
-    give (point, Leave at (exits.Throw number))
-  statement_finding setting point (ReturnTree at value) = do
-    statement ← return_finding setting.result point.names at value
-    give (point, statement)
+    block_finding setting (record point { loops = point.loops + 1 }) body gives λ inner. (inner.0, While at point.loops e inner.1)
+  statement_finding setting point (BreakTree at) = Ok (point, Leave at exits.Break)
+  statement_finding setting point (ContinueTree at) = Ok (point, Leave at exits.Continue)
+  statement_finding setting point (ThrowTree at exception) =
+      use_as (item_of Exception) (point.names exception.text) exception.at gives λ number. (point, Leave at (exits.Throw number))
+  statement_finding setting point (ReturnTree at value) =
+      return_finding setting.result point.names at value gives λ statement. (point, statement)
   statement_finding setting point (TryTree at body catches) = do
     inner ← block_finding setting point body
-    handled ← catches_finding setting inner.0 catches
-    give (handled.0, Try at inner.1 handled.1)
-  statement_finding setting point (NestedTree (BlockOf at statements)) = do
-    inner ← block_finding setting point (BlockOf at statements)
-    give (inner.0, Nested at inner.1)
+    catches_finding setting inner.0 catches gives λ handled. (handled.0, Try at inner.1 handled.1)
+  statement_finding setting point (NestedTree (BlockOf at statements)) =
+      block_finding setting point (BlockOf at statements) gives λ inner. (inner.0, Nested at inner.1)
 
   -- after a block what was in scope before it is in scope again; its slots stay taken
   pub block_finding : Setting → Point → BlockTree → Finding (Point × Block)
-  block_finding setting point (BlockOf at statements) = do
-    inner ← statements_finding setting point statements
-    give (record inner.0 { names = point.names }, inner.1)
+  block_finding setting point (BlockOf at statements) =
+      statements_finding setting point statements gives λ inner. (record inner.0 { names = point.names }, inner.1)
 
   pub statements_finding : Setting → Point → StatementTrees → Finding (Point × Block)
-  statements_finding setting point NoStatement = give (point, Empty)
+  statements_finding setting point NoStatement = Ok (point, Empty)
   statements_finding setting point (StatementThen statement rest) = do
     first ← statement_finding setting point statement
-    others ← statements_finding setting first.0 rest
-    give (others.0, Then first.1 others.1)
+    statements_finding setting first.0 rest gives λ others. (others.0, Then first.1 others.1)
 
   pub catches_finding : Setting → Point → CatchTrees → Finding (Point × Handlers)
-  catches_finding setting point NoCatch = give (point, NoMore)
+  catches_finding setting point NoCatch = Ok (point, NoMore)
   catches_finding setting point (CatchThen at exception body rest) = do
     number ← use_as (item_of Exception) (point.names exception.text) exception.at
     inner ← block_finding setting point body
-    others ← catches_finding setting inner.0 rest
-    give (others.0, Catch exception.at number inner.1 others.1)
+    catches_finding setting inner.0 rest gives λ others. (others.0, Catch exception.at number inner.1 others.1)
 
 -- ---- parts of the rules, by which proofs speak of them
+
+-- a slot, and the point with one more
+abbrev pub slot_of : (at : ℕ) → BaseType → Option Label → List ℕ → (size : Option ℕ) → SlotEntry
+slot_of at base label name size = record { base = base; size = size; written = label; at = at; name = name }
+
+abbrev pub with_local : Point → SlotEntry → Point
+with_local point slot = record point {
+  names = declaring slot.name (meanings.Variable (Local (length point.slots)) slot.base slot.size) point.names;
+  slots = point.slots ++ slot ∷ [];
+}
 
 abbrev pub signature_at : List Signature → ℕ → Signature
 signature_at signatures procedure = slice_index_or signatures procedure (record { parameters = []; result = None })

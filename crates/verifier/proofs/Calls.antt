@@ -5,6 +5,7 @@ use Rattle.std.proofs.lemmas.List.{reverse-append}
 use Rattle.modules.specs.Code.{width_of, instruction_at}
 use Rattle.modules.specs.Contents.{ProcedureContents, ModuleContents}
 use Rattle.modules.specs.Machine as machine
+use Rattle.modules.specs.Transitions as transitions
 use Rattle.modules.specs.MachineParts as pieces
 use Rattle.modules.specs.Machine.{State, Caller, Machine, Running, Ended, Deep, Header, machine_code, header_of}
 use Rattle.modules.specs.MachineParts.{code_of, position_after, kinds_of}
@@ -28,7 +29,7 @@ use Rattle.common.specs.declared.limits.TheConstants.{MAX_FRAMES}
 record Pops (kinds : List BaseType) (before operands : List Cell) (rest : List BaseType) : Type 0 where
   arguments : List Cell
   left : List Cell
-  popped : machine.popped kinds before operands ≡ Some (arguments, left)
+  popped : transitions.popped kinds before operands ≡ Some (arguments, left)
   kinds_are : map kind_of arguments ≡ reverse kinds ++ map kind_of before
   rest_is : map kind_of left ≡ rest
 
@@ -41,7 +42,7 @@ pops (q ∷ kinds) before (x ∷ operands) rest e =
     record {
       arguments = more.arguments;
       left = more.left;
-      popped = ap (λ (b : Bool). if b then machine.popped kinds (x ∷ before) operands else None) r.0 ∙ more.popped;
+      popped = ap (λ (b : Bool). if b then transitions.popped kinds (x ∷ before) operands else None) r.0 ∙ more.popped;
       kinds_are =
           more.kinds_are
           ∙ ap (λ (k : BaseType). reverse kinds ++ k ∷ map kind_of before) (sym (same_of q (kind_of x) r.0))
@@ -68,7 +69,7 @@ get_header (x ∷ procedures) (suc k) p e = get_header procedures k p e
 module _ (m : ModuleContents) (free : IsNotRefused m) (p : ProcedureContents) (s : State) where
   -- ---- a call
 
-  enters_good : (callee : ProcedureContents) (number : ℕ) (rest : List BaseType) → Stands m p s (Call number) (map kind_of s.frame.operands) → slice_get m.procedures number ≡ Some callee → effect m p (Call number) (map kind_of s.frame.operands) ≡ Leaves (pushed callee.returned rest) → (arguments left : List Cell) → map kind_of arguments ≡ (header_of callee).parameters → map kind_of left ≡ rest → Good m (machine.enters (machine_code m) s number callee.slots (Some (arguments, left)))
+  enters_good : (callee : ProcedureContents) (number : ℕ) (rest : List BaseType) → Stands m p s (Call number) (map kind_of s.frame.operands) → slice_get m.procedures number ≡ Some callee → effect m p (Call number) (map kind_of s.frame.operands) ≡ Leaves (pushed callee.returned rest) → (arguments left : List Cell) → map kind_of arguments ≡ (header_of callee).parameters → map kind_of left ≡ rest → Good m (transitions.enters (machine_code m) s number callee.slots (Some (arguments, left)))
   enters_good callee number rest st there e arguments left kinds is = split (nat_lt (length s.callers + 1) MAX_FRAMES)
     where
       resumes : position_after (instruction_at (code_of (slice_get m.procedures s.frame.procedure)) s.frame.position) s.frame.position ≡ s.frame.position + width_of (Call number)
@@ -110,7 +111,7 @@ module _ (m : ModuleContents) (free : IsNotRefused m) (p : ProcedureContents) (s
       let all = pops (reverse parameters) [] s.frame.operands popped_first.0 popped_first.1.0 in
       let arguments_are : map kind_of all.arguments ≡ parameters = all.kinds_are ∙ append-nil (reverse (reverse parameters)) ∙ reverse-reverse parameters in
       subst (λ o. Good m (pieces.calls (machine_code m) s number o)) (sym (get_header m.procedures number callee there))
-      (subst (λ o. Good m (machine.enters (machine_code m) s number callee.slots o)) (sym all.popped)
+      (subst (λ o. Good m (transitions.enters (machine_code m) s number callee.slots o)) (sym all.popped)
       (enters_good callee number popped_first.0 st there (e ∙ sym popped_first.1.1) all.arguments all.left arguments_are all.rest_is))
 
   -- ---- returns
@@ -127,9 +128,9 @@ module _ (m : ModuleContents) (free : IsNotRefused m) (p : ProcedureContents) (s
   returns_good kinds after st e =
       let none = none_of p.returned (own_of (is_none p.returned) _ after e).0 in
       subst (λ o. Good m (pieces.returns_nothing s o)) (sym (get_header m.procedures s.frame.procedure p st.there))
-      (subst (λ o. Good m (machine.leaves_without s o)) (sym none) (leaves_good m free s st.globals p s.callers none st.callers))
+      (subst (λ o. Good m (transitions.leaves_without s o)) (sym none) (leaves_good m free s st.globals p s.callers none st.callers))
 
-  gives_good : (o : Option BaseType) (operands : List Cell) (after : List BaseType) → Stands m p s ReturnValue (map kind_of s.frame.operands) → p.returned ≡ o → is_some o ≡ true → and_then (all_popped (map (λ kind. Some kind) (value_kinds o)) (map kind_of operands)) (λ rest. Leaves rest) ≡ Leaves after → Good m (machine.gives_back s o operands)
+  gives_good : (o : Option BaseType) (operands : List Cell) (after : List BaseType) → Stands m p s ReturnValue (map kind_of s.frame.operands) → p.returned ≡ o → is_some o ≡ true → and_then (all_popped (map (λ kind. Some kind) (value_kinds o)) (map kind_of operands)) (λ rest. Leaves rest) ≡ Leaves after → Good m (transitions.gives_back s o operands)
   gives_good None operands after st is some e = absurd (let no : false ≡ true = some in cc)
   gives_good (Some q) [] after st is some e = absurd (cc)
   gives_good (Some q) (x ∷ operands) after st is some e =

@@ -3,7 +3,8 @@ use Rattle.common.specs.Functions.{updated}
 use Rattle.std.proofs.Common.{◌≡◌, ℕ, zero, suc, ◌==◌, Bool, true, false, if◌then◌else◌, List, [], ◌∷◌, length, map, take, replicate, slice_get, slice_set, Option, Some, None, refl, sym, ap, ◌∙◌, subst, pos, negsuc, ℤ}
 use Rattle.std.specs.Prelude.{nat_lt}
 use Rattle.std.proofs.lemmas.Bool.{eqb-true}
-use Rattle.modules.specs.Machine.{element_at, with_element, scalar_cell, first_cells, first_slots, first_global}
+use Rattle.modules.specs.Transitions.{scalar_cell}
+use Rattle.modules.specs.Machine.{element_at, with_element, first_cells, first_slots, first_global}
 use Rattle.modules.specs.MachineParts.{slot_of, first_slot, cells_of_global, kinds_of}
 use Rattle.modules.specs.Values.{kind_of, zero_of, is_same_kind}
 use Rattle.common.specs.declared.base_type.BaseType.{BaseType}

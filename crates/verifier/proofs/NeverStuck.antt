@@ -2,10 +2,13 @@
 use Rattle.std.proofs.Common.{◌≡◌, inl, inr, ℕ, zero, suc, ◌==◌, Bool, true, false, if◌then◌else◌, List, [], ◌∷◌, map, slice_get, Option, Some, None, refl, sym, ap, ◌∙◌, subst}
 use Rattle.std.specs.Prelude.{ℤ, nat_lt, is_none, is_some}
 use Rattle.std.proofs.lemmas.Bool.{and_parts}
+use Rattle.modules.proofs.Tabled.{step-is}
 use Rattle.modules.specs.Code.{instruction_at}
 use Rattle.modules.specs.Contents.{ProcedureContents, ModuleContents}
 use Rattle.modules.specs.Machine as machine
-use Rattle.modules.specs.Machine.{State, Machine, Running, machine_code, declared_at, cells_at, with_cells_at, first_state, first_slots, act, step, exec, after_steps}
+use Rattle.modules.specs.Transitions as transitions
+use Rattle.modules.specs.Machine.{State, Machine, Running, machine_code, cells_at, with_cells_at, first_state, first_slots, step, exec, after_steps}
+use Rattle.modules.specs.Transitions.{declared_at, act}
 use Rattle.modules.specs.MachineParts.{code_of, slots_of, slots_in, acts}
 use Rattle.modules.specs.FormatParts.{may_start}
 use Rattle.modules.specs.Values.{kind_of, kind_of_slot}
@@ -86,24 +89,24 @@ act_good m free p s Pop after st d e = drops_good m free p Pop s s.frame.operand
 act_good m free p s (Load storage k) after st d e =
     let here = declared_in m p storage k in
     let scalar = right_of_unless (is_scalar here) SlotOrIndex d in
-    subst (λ o. Good m (machine.loads (machine_code m) s o (cells_at s storage k))) (sym (declared_here m free p s (Load storage k) st storage k))
+    subst (λ o. Good m (transitions.loads (machine_code m) s o (cells_at s storage k))) (sym (declared_here m free p s (Load storage k) st storage k))
     (loads_good m free p (Load storage k) s _ after here (cells_at s storage k) st refl e refl scalar (scalar_there here (cells_at s storage k) (cells_here m free p s (Load storage k) st storage k) scalar) (sym (leaves_same _ after e)))
 act_good m free p s (Store storage k) after st d e =
     let here = declared_in m p storage k in
-    subst (λ o. Good m (machine.stores (machine_code m) s o (with_cells_at s storage k) s.frame.operands)) (sym (declared_here m free p s (Store storage k) st storage k))
+    subst (λ o. Good m (transitions.stores (machine_code m) s o (with_cells_at s storage k) s.frame.operands)) (sym (declared_here m free p s (Store storage k) st storage k))
     (stores_good m free p (Store storage k) s (with_cells_at s storage k) here s.frame.operands after st (changed_stands m free p s (Store storage k) st storage k) e refl (right_of_unless (is_scalar here) SlotOrIndex d) (sym (unpushed _) ∙ e))
 act_good m free p s (LoadElement storage k) after st d e =
     let here = declared_in m p storage k in
     let array = right_of_unless (is_array here) SlotOrIndex d in
-    subst (λ o. Good m (machine.loads_element (machine_code m) s o (cells_at s storage k) s.frame.operands)) (sym (declared_here m free p s (LoadElement storage k) st storage k))
+    subst (λ o. Good m (transitions.loads_element (machine_code m) s o (cells_at s storage k) s.frame.operands)) (sym (declared_here m free p s (LoadElement storage k) st storage k))
     (loads_element_good m free p (LoadElement storage k) s here (cells_at s storage k) s.frame.operands after st e refl array (array_there here (cells_at s storage k) (cells_here m free p s (LoadElement storage k) st storage k) array) e)
 act_good m free p s (StoreElement storage k) after st d e =
     let here = declared_in m p storage k in
     let array = right_of_unless (is_array here) SlotOrIndex d in
-    subst (λ o. Good m (machine.stores_element (machine_code m) s o (with_cells_at s storage k) (cells_at s storage k) s.frame.operands)) (sym (declared_here m free p s (StoreElement storage k) st storage k))
+    subst (λ o. Good m (transitions.stores_element (machine_code m) s o (with_cells_at s storage k) (cells_at s storage k) s.frame.operands)) (sym (declared_here m free p s (StoreElement storage k) st storage k))
     (stores_element_good m free p (StoreElement storage k) s (with_cells_at s storage k) here (cells_at s storage k) s.frame.operands after st (changed_stands m free p s (StoreElement storage k) st storage k) e refl array (array_there here (cells_at s storage k) (cells_here m free p s (StoreElement storage k) st storage k) array) (sym (unpushed _) ∙ e))
 act_good m free p s (Clear k) after st d e =
-    subst (λ o. Good m (machine.clears (machine_code m) s k o)) (sym (declared_here m free p s (Clear k) st Local k))
+    subst (λ o. Good m (transitions.clears (machine_code m) s k o)) (sym (declared_here m free p s (Clear k) st Local k))
     (clears_good m free p (Clear k) s k (slice_get p.slots k) after st (changed_stands m free p s (Clear k) st Local k) e refl (right_of_unless (is_array (slice_get p.slots k)) SlotOrIndex d) (leaves_same _ after e))
 act_good m free p s (Operate operator) after st d e = operates_good m free p (Operate operator) s operator s.frame.operands after st e refl e
 act_good m free p s (Jump target) after st d e = jump_good m free p s (Jump target) _ after s.frame.operands target st e refl (leaves_same _ after e)
@@ -159,10 +162,11 @@ module _ (m : ModuleContents) (free : IsNotRefused m) where
       let at = s.frame.position in
       let boundary = flow_boundary m p (boundaries m p (all_right m free.fixed s.frame.procedure p g.there)) g.flow.table g.flow.flow at (map kind_of s.frame.operands) g.flow.has in
       let fetched : instruction_at (code_of (slice_get m.procedures s.frame.procedure)) at ≡ instruction_at p.code at = ap (λ o. instruction_at (code_of o) at) g.there in
-      elim boundary [
+      subst (Good m) (sym (step-is (machine_code m) s))
+      (elim boundary [
         | inl ends ↦ absurd (flow_stays m p (flows m free s.frame.procedure p g.there) (map kind_of s.frame.operands) (subst (λ (n : ℕ). IsInFlow m p n (map kind_of s.frame.operands)) ends g.flow))
         | inr found ↦ subst (λ o. Good m (acts (machine_code m) s o)) (sym (fetched ∙ found.1)) (instruction_good s g found.0 found.1)
-      ]
+      ])
 
   step_good : (machine : Machine) → Good m machine → Good m (step (machine_code m) machine)
   step_good _ (runs s g) = state_good s g

@@ -8,7 +8,8 @@ use Rattle.std.proofs.lemmas.Bool.Decides.{nat_tests}
 use Rattle.modules.specs.Code.{width_of, instruction_at}
 use Rattle.modules.specs.Contents.{ProcedureContents, ModuleContents}
 use Rattle.modules.specs.Machine as machine
-use Rattle.modules.specs.Machine.{State, Frame, Caller, Machine, Running, Ended, Finished, Threw, machine_code, handler_for, handled, unwound, raised}
+use Rattle.modules.specs.Machine.{State, Frame, Caller, Machine, Running, Ended, Finished, Threw, machine_code, handler_for, unwound, raised}
+use Rattle.modules.specs.Transitions.{handled}
 use Rattle.modules.specs.MachineParts.{code_of, handlers_of, position_after, leaves, leaves_value}
 use Rattle.modules.specs.Values.{is_same_kind, kind_of}
 use Rattle.modules.specs.declared.instruction.Instruction.{Instruction}

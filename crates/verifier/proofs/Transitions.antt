@@ -3,6 +3,7 @@ use Rattle.common.specs.Functions.{updated}
 use Rattle.std.proofs.Common.{◌≡◌, ℕ, Bool, true, false, if◌then◌else◌, List, [], ◌∷◌, ◌++◌, map, replicate, Option, Some, None, refl, sym, ap, ◌∙◌, subst, ℤ}
 use Rattle.modules.specs.Contents.{ProcedureContents, ModuleContents}
 use Rattle.modules.specs.Machine as machine
+use Rattle.modules.specs.Transitions as transitions
 use Rattle.modules.specs.MachineParts as pieces
 use Rattle.modules.specs.Machine.{State, machine_code, element_at, with_element}
 use Rattle.modules.specs.MachineParts.{operates, with_slot}
@@ -58,13 +59,13 @@ applied-good (kind.Boolean ∷ kinds) kind function (cell.Bool b ∷ operands) a
 module _ (m : ModuleContents) (free : IsNotRefused m) (p : ProcedureContents) (i : Instruction) where
   -- ---- scalars
 
-  pub loads_good : (s : State) (kinds after : List BaseType) (o : Option Slot) (cells : List Cell) → Stands m p s i kinds → kinds ≡ map kind_of s.frame.operands → effect m p i kinds ≡ Leaves after → goes_on i ≡ true → is_scalar o ≡ true → AllOf (slot_kind o) cells → after ≡ slot_kind o ∷ kinds → Good m (machine.loads (machine_code m) s o cells)
+  pub loads_good : (s : State) (kinds after : List BaseType) (o : Option Slot) (cells : List Cell) → Stands m p s i kinds → kinds ≡ map kind_of s.frame.operands → effect m p i kinds ≡ Leaves after → goes_on i ≡ true → is_scalar o ≡ true → AllOf (slot_kind o) cells → after ≡ slot_kind o ∷ kinds → Good m (transitions.loads (machine_code m) s o cells)
   loads_good s kinds after None cells st is e goes scalar all leaves = absurd (let no : false ≡ true = scalar in cc)
   loads_good s kinds after (Some (slot.Array q count)) cells st is e goes scalar all leaves = absurd (let no : false ≡ true = scalar in cc)
   loads_good s kinds after (Some (slot.Scalar q)) cells st is e goes scalar all leaves =
       next_good m free p s i kinds after _ st e goes (ap (λ k. k ∷ map kind_of s.frame.operands) (scalar_kind q cells all) ∙ ap (λ l. q ∷ l) (sym is) ∙ sym leaves)
 
-  pub stores_good : (s : State) (put : List Cell → State) (o : Option Slot) (operands : List Cell) (after : List BaseType) → Stands m p s i (map kind_of operands) → ((cells : List Cell) → AllOf (slot_kind o) cells → Stands m p (put cells) i (map kind_of operands)) → effect m p i (map kind_of operands) ≡ Leaves after → goes_on i ≡ true → is_scalar o ≡ true → all_popped (Some (slot_kind o) ∷ []) (map kind_of operands) ≡ Leaves after → Good m (machine.stores (machine_code m) s o put operands)
+  pub stores_good : (s : State) (put : List Cell → State) (o : Option Slot) (operands : List Cell) (after : List BaseType) → Stands m p s i (map kind_of operands) → ((cells : List Cell) → AllOf (slot_kind o) cells → Stands m p (put cells) i (map kind_of operands)) → effect m p i (map kind_of operands) ≡ Leaves after → goes_on i ≡ true → is_scalar o ≡ true → all_popped (Some (slot_kind o) ∷ []) (map kind_of operands) ≡ Leaves after → Good m (transitions.stores (machine_code m) s o put operands)
   stores_good s put None operands after st stands e goes scalar pops = absurd (let no : false ≡ true = scalar in cc)
   stores_good s put (Some (slot.Array q count)) operands after st stands e goes scalar pops = absurd (let no : false ≡ true = scalar in cc)
   stores_good s put (Some (slot.Scalar q)) [] after st stands e goes scalar pops = absurd (cc)
@@ -84,7 +85,7 @@ module _ (m : ModuleContents) (free : IsNotRefused m) (p : ProcedureContents) (i
       split None is = raised_good m free p s i kinds BOUNDS st
       split (Some x) is = next_good m free p s i kinds after (x ∷ operands) st e goes (ap (λ k. k ∷ map kind_of operands) (element_kind q cells n x all is) ∙ sym leaves)
 
-  pub loads_element_good : (s : State) (o : Option Slot) (cells : List Cell) (operands : List Cell) (after : List BaseType) → Stands m p s i (map kind_of operands) → effect m p i (map kind_of operands) ≡ Leaves after → goes_on i ≡ true → is_array o ≡ true → AllOf (slot_kind o) cells → and_then (all_popped (Some kind.Int ∷ []) (map kind_of operands)) (λ rest. Leaves (slot_kind o ∷ rest)) ≡ Leaves after → Good m (machine.loads_element (machine_code m) s o cells operands)
+  pub loads_element_good : (s : State) (o : Option Slot) (cells : List Cell) (operands : List Cell) (after : List BaseType) → Stands m p s i (map kind_of operands) → effect m p i (map kind_of operands) ≡ Leaves after → goes_on i ≡ true → is_array o ≡ true → AllOf (slot_kind o) cells → and_then (all_popped (Some kind.Int ∷ []) (map kind_of operands)) (λ rest. Leaves (slot_kind o ∷ rest)) ≡ Leaves after → Good m (transitions.loads_element (machine_code m) s o cells operands)
   loads_element_good s None cells operands after st e goes array all pops = absurd (let no : false ≡ true = array in cc)
   loads_element_good s (Some (slot.Scalar q)) cells operands after st e goes array all pops = absurd (let no : false ≡ true = array in cc)
   loads_element_good s (Some (slot.Array q count)) cells [] after st e goes array all pops = absurd (cc)
@@ -99,7 +100,7 @@ module _ (m : ModuleContents) (free : IsNotRefused m) (p : ProcedureContents) (i
       split None w = raised_good m free p s i kinds BOUNDS st
       split (Some new) w = next_good m free p (put new) i kinds after operands (stands new (with_element_kind q cells n x new all is w)) e goes (sym leaves)
 
-  pub stores_element_good : (s : State) (put : List Cell → State) (o : Option Slot) (cells : List Cell) (operands : List Cell) (after : List BaseType) → Stands m p s i (map kind_of operands) → ((new : List Cell) → AllOf (slot_kind o) new → Stands m p (put new) i (map kind_of operands)) → effect m p i (map kind_of operands) ≡ Leaves after → goes_on i ≡ true → is_array o ≡ true → AllOf (slot_kind o) cells → all_popped (Some (slot_kind o) ∷ Some kind.Int ∷ []) (map kind_of operands) ≡ Leaves after → Good m (machine.stores_element (machine_code m) s o put cells operands)
+  pub stores_element_good : (s : State) (put : List Cell → State) (o : Option Slot) (cells : List Cell) (operands : List Cell) (after : List BaseType) → Stands m p s i (map kind_of operands) → ((new : List Cell) → AllOf (slot_kind o) new → Stands m p (put new) i (map kind_of operands)) → effect m p i (map kind_of operands) ≡ Leaves after → goes_on i ≡ true → is_array o ≡ true → AllOf (slot_kind o) cells → all_popped (Some (slot_kind o) ∷ Some kind.Int ∷ []) (map kind_of operands) ≡ Leaves after → Good m (transitions.stores_element (machine_code m) s o put cells operands)
   stores_element_good s put None cells operands after st stands e goes array all pops = absurd (let no : false ≡ true = array in cc)
   stores_element_good s put (Some (slot.Scalar q)) cells operands after st stands e goes array all pops = absurd (let no : false ≡ true = array in cc)
   stores_element_good s put (Some (slot.Array q count)) cells [] after st stands e goes array all pops = absurd (cc)
@@ -112,7 +113,7 @@ module _ (m : ModuleContents) (free : IsNotRefused m) (p : ProcedureContents) (i
       subst (λ (b : Bool). Good m (if b then pieces.changes (machine_code m) s put operands (with_element cells n x) else machine.stuck s)) (sym r.0)
       (changes_good s put (map kind_of (x ∷ cell.Int n ∷ operands)) after operands q cells n x st stands e goes all (sym (same_of q (kind_of x) r.0)) (sym (leaves_same (map kind_of operands) after r.1)))
 
-  pub clears_good : (s : State) (k : ℕ) (o : Option Slot) (after : List BaseType) → Stands m p s i (map kind_of s.frame.operands) → ((new : List Cell) → AllOf (slot_kind o) new → Stands m p (with_slot s k new) i (map kind_of s.frame.operands)) → effect m p i (map kind_of s.frame.operands) ≡ Leaves after → goes_on i ≡ true → is_array o ≡ true → map kind_of s.frame.operands ≡ after → Good m (machine.clears (machine_code m) s k o)
+  pub clears_good : (s : State) (k : ℕ) (o : Option Slot) (after : List BaseType) → Stands m p s i (map kind_of s.frame.operands) → ((new : List Cell) → AllOf (slot_kind o) new → Stands m p (with_slot s k new) i (map kind_of s.frame.operands)) → effect m p i (map kind_of s.frame.operands) ≡ Leaves after → goes_on i ≡ true → is_array o ≡ true → map kind_of s.frame.operands ≡ after → Good m (transitions.clears (machine_code m) s k o)
   clears_good s k None after st stands e goes array is = absurd (let no : false ≡ true = array in cc)
   clears_good s k (Some (slot.Scalar q)) after st stands e goes array is = absurd (let no : false ≡ true = array in cc)
   clears_good s k (Some (slot.Array q count)) after st stands e goes array is =
@@ -129,11 +130,11 @@ module _ (m : ModuleContents) (free : IsNotRefused m) (p : ProcedureContents) (i
       by (Some (None, left)) h = raised_good m free p s i (map kind_of operands) ARITH st
       by (Some (Some x, left)) h = next_good m free p s i (map kind_of operands) after (x ∷ left) st e goes h
 
-  pub drops_good : (s : State) (operands : List Cell) (after : List BaseType) → Stands m p s i (map kind_of operands) → effect m p i (map kind_of operands) ≡ Leaves after → goes_on i ≡ true → all_popped (None ∷ []) (map kind_of operands) ≡ Leaves after → Good m (machine.drops (machine_code m) s operands)
+  pub drops_good : (s : State) (operands : List Cell) (after : List BaseType) → Stands m p s i (map kind_of operands) → effect m p i (map kind_of operands) ≡ Leaves after → goes_on i ≡ true → all_popped (None ∷ []) (map kind_of operands) ≡ Leaves after → Good m (transitions.drops (machine_code m) s operands)
   drops_good s [] after st e goes pops = absurd (cc)
   drops_good s (x ∷ operands) after st e goes pops = next_good m free p s i (map kind_of (x ∷ operands)) after operands st e goes (leaves_same (map kind_of operands) after pops)
 
-  pub branches_good : (s : State) (target : ℕ) (operands : List Cell) (after : List BaseType) → Stands m p s i (map kind_of operands) → effect m p i (map kind_of operands) ≡ Leaves after → goes_on i ≡ true → target_of i ≡ Some target → all_popped (Some kind.Boolean ∷ []) (map kind_of operands) ≡ Leaves after → Good m (machine.branches (machine_code m) s target operands)
+  pub branches_good : (s : State) (target : ℕ) (operands : List Cell) (after : List BaseType) → Stands m p s i (map kind_of operands) → effect m p i (map kind_of operands) ≡ Leaves after → goes_on i ≡ true → target_of i ≡ Some target → all_popped (Some kind.Boolean ∷ []) (map kind_of operands) ≡ Leaves after → Good m (transitions.branches (machine_code m) s target operands)
   branches_good s target [] after st e goes to pops = absurd (cc)
   branches_good s target (cell.Int n ∷ operands) after st e goes to pops = absurd (cc)
   branches_good s target (cell.Bool true ∷ operands) after st e goes to pops =
@@ -143,7 +144,7 @@ module _ (m : ModuleContents) (free : IsNotRefused m) (p : ProcedureContents) (i
 
   -- ---- channels
 
-  pub sends_good : (s : State) (channel : ℕ) (o : Option Direction) (operands : List Cell) (after : List BaseType) → Stands m p s i (map kind_of operands) → effect m p i (map kind_of operands) ≡ Leaves after → goes_on i ≡ true → is_output o ≡ true → all_popped (Some kind.Int ∷ []) (map kind_of operands) ≡ Leaves after → Good m (machine.sends (machine_code m) s channel o operands)
+  pub sends_good : (s : State) (channel : ℕ) (o : Option Direction) (operands : List Cell) (after : List BaseType) → Stands m p s i (map kind_of operands) → effect m p i (map kind_of operands) ≡ Leaves after → goes_on i ≡ true → is_output o ≡ true → all_popped (Some kind.Int ∷ []) (map kind_of operands) ≡ Leaves after → Good m (transitions.sends (machine_code m) s channel o operands)
   sends_good s channel None operands after st e goes output pops = absurd (let no : false ≡ true = output in cc)
   sends_good s channel (Some Input) operands after st e goes output pops = absurd (let no : false ≡ true = output in cc)
   sends_good s channel (Some Output) [] after st e goes output pops = absurd (cc)

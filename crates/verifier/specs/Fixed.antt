@@ -1,15 +1,15 @@
 -- For what an instruction or a handler of a module is refused by itself, and these refusals in the order in which the
 -- first is reported: the fixed refusals of the module.
 -- Source: our own; the rules are those of a bytecode verifier, as that of the Java virtual machine.
-use Rattle.std.specs.Prelude.{ℕ, ◌+◌, ◌==◌, nat_lt, Bool, true, ◌&&◌, ◌||◌, if◌then◌else◌, List, [], ◌∷◌, ◌++◌, Option, Some, None, is_some}
+use Rattle.std.specs.Prelude.{ℕ, ◌+◌, ◌==◌, nat_lt, Bool, true, ◌&&◌, ◌||◌, if◌then◌else◌, List, [], ◌∷◌, ◌++◌, length, Option, Some, None, is_some}
 use Rattle.std.specs.List.{flat_map}
 use Rattle.std.specs.Option.{option_map_or}
 use Rattle.modules.specs.Contents.{ProcedureContents, ModuleContents}
-use Rattle.modules.specs.Code.{width_of, code_length, instruction_at}
+use Rattle.modules.specs.Code.{width_of, instruction_at}
 use Rattle.modules.specs.Machine.{machine_code}
 use Rattle.modules.specs.declared.instruction.Instruction.{Instruction}
 use Rattle.modules.specs.declared.declaration.Handler.{Handler}
-use Rattle.modules.specs.Opcodes.{entry_of}
+use Rattle.modules.specs.Opcodes.{code_bytes, entry_of}
 use Rattle.verifier.specs.Signatures.{signature}
 use Rattle.verifier.specs.declared.fault.CodeRefusalKind.{CodeRefusalKind}
 use Rattle.verifier.specs.declared.fault.CodeRefusalKind.TheVariants as kind
@@ -32,7 +32,7 @@ instruction_refusal m procedure instruction =
 
 -- whether a range may end at an offset: at an instruction's first byte or at the end of the code
 abbrev pub is_end : ProcedureContents → ℕ → Bool
-is_end procedure offset = is_start procedure offset || offset == code_length procedure.code
+is_end procedure offset = is_start procedure offset || offset == length (code_bytes procedure.code)
 
 -- whether the offsets of a handler are right: its start and target are instructions' first bytes, its end is one or the code's
 -- length, and the start stands before the end

@@ -1,5 +1,5 @@
 -- The signature of an instruction in a procedure: whether what it names is there, whether the procedure may have it, and what it pops
--- and pushes; one entry for each.
+-- and pushes; one entry for each, as the verifier's code reads it. That it agrees with the machine's rule is proved with typed code.
 -- Source: our own; the rules are those of a bytecode verifier, as that of the Java virtual machine.
 use Rattle.std.specs.Prelude.{ℕ, nat_lt, Bool, true, false, List, [], ◌∷◌, map, reverse, slice_get, Option, Some, None, is_none, is_some}
 use Rattle.std.specs.Option.{option_map_or, option_to_list}

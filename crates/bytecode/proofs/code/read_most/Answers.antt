@@ -1,6 +1,5 @@
-use Rattle.std.proofs.Common.{rules, ◌≡◌, ◌≤◌, ◌+◌, ◌-◌, ◌*◌, length, drop, arith, refl, ap, sym, ◌∙◌}
-use Rattle.std.proofs.lemmas.List.{length-drop}
-use Rattle.bytecode.proofs.Widths.{most_few, most_goes_on, most_rest, rest_at, run_few, run_goes_on}
+use Rattle.std.proofs.Common.{rules, ◌≡◌, ◌≤◌, ◌+◌, length, arith, refl}
+use Rattle.bytecode.proofs.Widths.{most_few, most_goes_on, most_rest, run_few, run_goes_on}
 use Rattle.bytecode.proofs.code.read_most.Goals as goal
 use Rattle.bytecode.proofs.code.read_most.Goals.{then-len-capacity+in_ok-code, else-len-capacity, then-len-capacity-2+in_ok-code-2, else-len-capacity-2}
 

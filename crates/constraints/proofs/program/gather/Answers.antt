@@ -16,7 +16,7 @@ use Rattle.constraints.proofs.program.gather.Goals as goal
 
 pub walk_procedures-requires : goal.walk_procedures-requires
 walk_procedures-requires c =
-    record { mapped = subst (λ (k : Core). AreEndsOf (program_of k) c.args.ends.now) (sym c.in_ok-table.ensures) c.requires.mapped }
+    record { mapped = subst (λ (k : Core). AreEndsOf (program_of k) c.args.ends) (sym c.in_ok-table.ensures) c.requires.mapped }
 
 pub spread_calls-requires : goal.spread_calls-requires
 spread_calls-requires c =

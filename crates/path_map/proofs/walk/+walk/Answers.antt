@@ -13,7 +13,6 @@ use Rattle.resolved.specs.TreeOf.{expression_of, some_expression_of, statement_o
 use Rattle.resolved.specs.declared.statement.Exit.{Exit}
 use Rattle.path_map.specs.FirstFault.{IsFirstEndFault}
 use Rattle.path_map.specs.Paths.{block_paths, rest_paths, inner_paths, statement_paths}
-use Rattle.path_map.specs.Exceptions.{raised_list}
 use Rattle.path_map.specs.Joins.{raises_some}
 use Rattle.path_map.specs.Sets.{members}
 use Rattle.path_map.specs.Walks.{IsFound, AreThrown}

@@ -15,5 +15,5 @@ returns c = λ atoms is.
     let program = program_of table.core.now in
     let made : Stored = record { at = 0; rule = Between; left = c.args.left; target = None; right = stored.Unknown c.args.number } in
     let named : NamedConstraint = record { at = 0; rule = 0; left = atoms; target = None; right = inner_atom c.args.number } in
-    added-one table.core.now table.core.now.labels made named c.args.constraints.now.items c.push.new.self.items c.in_ok-push.ensures.items
+    added-one table.core.now table.core.now.labels made named c.args.constraints.now.items c.add.new.constraints.items c.in_ok-add.ensures
     (stands-made table.core.now.labels made (wanted_constraint program named) refl refl is refl refl)

@@ -16,5 +16,5 @@ returns c = λ procedure atoms is.
     let target = c.args.target in
     let made : Stored = record { at = c.args.at; rule = c.args.rule; left = c.args.left; target = Some target; right = c.part-right.result } in
     let named : NamedConstraint = record { at = c.args.at; rule = rule_number c.args.rule; left = atoms; target = Some target; right = renamed Real (label_of program target) } in
-    added-one table.core.now table.core.now.labels made named c.args.constraints.now.items c.push.new.self.items c.in_ok-push.ensures.items
+    added-one table.core.now table.core.now.labels made named c.args.constraints.now.items c.add.new.constraints.items c.in_ok-add.ensures
     (stands-made table.core.now.labels made (wanted_constraint program named) refl refl is refl c.part-right.ensures)

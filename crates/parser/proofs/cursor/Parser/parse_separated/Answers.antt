@@ -11,7 +11,7 @@ returns-in_err-first g c =
     λ room. rw (p.1, p.2) (fails_after room (text_of c.args.separator) g.T.Listed.form _ c.in_err-first.field-0.0 (c.in_err-first.ensures room))
 
 pub loop-separator-init : goal.loop-separator-init
-loop-separator-init g c = λ room. rw c.in_ok-push.ensures.items (rw c.new-list.ensures.items (starts_after room (text_of c.args.separator) g.T.Listed.form _ _ _ (c.in_ok-first.ensures room)))
+loop-separator-init g c = λ room. rw c.in_ok-push.ensures.items (rw c.in_ok-list.ensures.items (starts_after room (text_of c.args.separator) g.T.Listed.form _ _ _ (c.in_ok-first.ensures room)))
 
 pub returns-in_err-next : goal.returns-in_err-next
 returns-in_err-next g c =

@@ -1,5 +1,5 @@
 use Rattle.std.proofs.Common.{rules}
-use Rattle.syntax.specs.Grammar.{thrown}
+use Rattle.parser.specs.Parts.{thrown}
 use Rattle.parser.specs.Reading.{read}
 use Rattle.parser.proofs.cursor.Parser.parse_thrown.Goals as goal
 
