@@ -1,17 +1,19 @@
 -- The first demand that cannot be met: a refused program has one, a program has one at most, and a labelled one has none.
-use Rattle.std.proofs.Common.{◌≡◌, refl, sym, ap, ◌∙◌, subst, append_assoc, Bool, true, false, not, List, [], ◌∷◌, ◌++◌, ◌&&◌, inl, ⊎_elim}
+use Rattle.std.proofs.Common.{◌≡◌, refl, sym, ap, ◌∙◌, subst, append_assoc, Bool, true, false, not, List, [], ◌∷◌, ◌++◌, ◌&&◌, ◌||◌, ◌↔◌, inl, ⊎_elim}
 use Rattle.std.specs.Prelude.{IsTrue, IsFalse, Contains, Some, None, find}
-use Rattle.std.proofs.lemmas.Bool.{and_parts, not-false, not-true}
+use Rattle.std.proofs.lemmas.Bool.{and_parts, or_right, not-false, not-true}
 use Rattle.std.proofs.lemmas.List.Elements.{Contains-append_left, Contains-push}
 use Rattle.common.proofs.Elements.{none_in_nil, Contains-cons_cases}
 use Rattle.labels.specs.Label.{ReaderPolicy, Label}
 use Rattle.labels.specs.LabelLattice.{label_lattice}
+use Rattle.labels.proofs.Elements.{All-from_each, each_from_All}
 use Rattle.labels.proofs.FlowTests.{IsLattice-flows}
 use Rattle.lattices.specs.Constraints.{Atom, Written, Unknown, is_written, holds, value, join_of, FitsUnknowns}
-use Rattle.lattices.proofs.Constraints.{each-of, all-from, join_of-above, join_of-least, unknown-holds, fits-unknowns}
+use Rattle.lattices.proofs.Constraints.{all-from, join_of-above, join_of-least, unknown-holds}
 use Rattle.resolved.specs.Program.{Program}
-use Rattle.resolved.specs.Labelled.{Unwritten, Demand, Labelled, program_demands}
+use Rattle.resolved.specs.Labelled.{Unwritten, Demand, Holds, Labelled, program_demands}
 use Rattle.resolved.specs.Flow.{AreLeast, IsProgramRefused}
+use Rattle.resolved.proofs.Demands.{holds-decides}
 use Rattle.resolved.proofs.Flow.{labelled-or_refused}
 use Rattle.acceptance.specs.Laws.{UnmetDemandsEndChains}
 use Rattle.acceptance.specs.Refused.{CanMeet, IsFirstUnmet}
@@ -70,9 +72,26 @@ fewer : (program : Program) (demands more : List Demand) → CanMeet program (de
 fewer program demands more can = record {
   labels = can.labels;
   fit = can.fit;
-  meet = all-from (λ d. holds (label_lattice program.hierarchy) can.labels d) demands
-      (λ d h. each-of (λ d. holds (label_lattice program.hierarchy) can.labels d) (demands ++ more) can.meet d (Contains-append_left demands more d h));
+  meet = All-from_each (Holds program.hierarchy can.labels) demands
+      (λ d h. each_from_All (Holds program.hierarchy can.labels) (demands ++ more) can.meet d (Contains-append_left demands more d h));
 }
+
+-- labels fit the demands whose right sides are not written where these hold
+fits-unwritten : (program : Program) (labels : Unwritten → Label) → FitsUnknowns (label_lattice program.hierarchy) (program_demands program) labels
+    ↔ ((d : Demand) (u : Unwritten) → Contains (program_demands program) d → d.right ≡ Unknown u → Holds program.hierarchy labels d)
+fits-unwritten program labels = (
+  λ fits d u h is.
+      (holds-decides program.hierarchy labels d).0
+      (unknown-holds (label_lattice program.hierarchy) (IsLattice-flows program.hierarchy) (program_demands program) labels fits d u h is),
+  λ each.
+      all-from (λ (d : Demand). is_written d.right || holds (label_lattice program.hierarchy) labels d) (program_demands program)
+      (λ d h. by_right d d.right refl (λ u is. (holds-decides program.hierarchy labels d).1 (each d u h is))),
+)
+  where
+    by_right : (d : Demand) (r : Atom Unwritten Label) → d.right ≡ r → ((u : Unwritten) → d.right ≡ Unknown u → IsTrue (holds (label_lattice program.hierarchy) labels d)) →
+        IsTrue (is_written d.right || holds (label_lattice program.hierarchy) labels d)
+    by_right d (Written to) is held = ap (λ r. is_written r || holds (label_lattice program.hierarchy) labels d) is
+    by_right d (Unknown u) is held = or_right (is_written d.right) (holds (label_lattice program.hierarchy) labels d) (held u is)
 
 module _ (program : Program) (labels : Unwritten → Label) (least : AreLeast program labels) where
   -- under least labels a demand holds that is not one with a written right side that does not
@@ -121,12 +140,13 @@ module _ (program : Program) (policy : ReaderPolicy) (chain : List Demand) (last
   cannot can = by_right last.right refl (and_parts (is_written last.right) (not (holds (label_lattice program.hierarchy) is.labels last)) at_last.passes)
     where
       held : IsTrue (holds (label_lattice program.hierarchy) can.labels last)
-      held = each-of (λ d. holds (label_lattice program.hierarchy) can.labels d) (at_last.before ++ last ∷ []) can.meet last (Contains-push at_last.before last)
+      held = (holds-decides program.hierarchy can.labels last).1
+          (each_from_All (Holds program.hierarchy can.labels) (at_last.before ++ last ∷ []) can.meet last (Contains-push at_last.before last))
 
       by_right : (r : Atom Unwritten Label) → last.right ≡ r → (is_written last.right ≡ true) × (not (holds (label_lattice program.hierarchy) is.labels last) ≡ true) → ⊥
       by_right (Unknown u) e parts = let i : false ≡ true = sym (ap is_written e) ∙ parts.0 in absurd (cc)
       by_right (Written to) e parts =
-          let i : true ≡ false = sym (holds_too program is.labels is.least can.labels can.fit last last_there to e held) ∙ not-true _ parts.1 in absurd (cc)
+          let i : true ≡ false = sym (holds_too program is.labels is.least can.labels ((fits-unwritten program can.labels).1 can.fit) last last_there to e held) ∙ not-true _ parts.1 in absurd (cc)
 
   pub first-unmet : IsFirstUnmet program last
   first-unmet = record {
@@ -135,9 +155,9 @@ module _ (program : Program) (policy : ReaderPolicy) (chain : List Demand) (last
     demands_are = at_last.list_is;
     goes_on = record {
       labels = is.labels;
-      fit = is.least.fits;
-      meet = all-from (λ d. holds (label_lattice program.hierarchy) is.labels d) at_last.before
-          (λ d h. met program is.labels is.least d (before_last d h) (at_last.fails d h));
+      fit = (fits-unwritten program is.labels).0 is.least.fits;
+      meet = All-from_each (Holds program.hierarchy is.labels) at_last.before
+          (λ d h. (holds-decides program.hierarchy is.labels d).0 (met program is.labels is.least d (before_last d h) (at_last.fails d h)));
     };
     stops = cannot;
   }
@@ -156,7 +176,7 @@ unmet-not_labelled program last unmet labelled =
     all : CanMeet program (program_demands program)
     all = record {
       labels = labelled.0;
-      fit = fits-unknowns (label_lattice program.hierarchy) (IsLattice-flows program.hierarchy) (program_demands program) labelled.0 labelled.1;
+      fit = λ d u h is. each_from_All (Holds program.hierarchy labelled.0) (program_demands program) labelled.1 d h;
       meet = labelled.1;
     }
 

@@ -2,3 +2,4 @@ pub mod Demands
 pub mod ProperNames
 pub mod Phases
 pub mod TreeNames
+pub mod Texts

@@ -13,6 +13,7 @@ use Rattle.common.proofs.Cases.{all_front, pairs_front}
 use Rattle.resolved.specs.Names.{IsShortName, kept_names}
 use Rattle.resolved.specs.Program.{Program}
 use Rattle.types.specs.Laws.{channel_names, global_names, procedure_names, item_names, IsProperName, HasUtf8Names, NamesAreProper, NamesAreDifferent, NamesAreUtf8, HierarchyIsKept, ChannelLabelsAreCanonical}
+use Rattle.acceptance.proofs.Texts.{no_fault_text}
 use Rattle.acceptance.specs.Accepted.{IsTreeOf}
 use Rattle.acceptance.specs.Laws.{GivesNames}
 use Rattle.acceptance.proofs.TreeNames.{spelled_named}
@@ -23,11 +24,11 @@ use Rattle.acceptance.proofs.TreeNames.{spelled_named}
 
 pub tree_of_text : (source : List ℕ) (tree : ProgramTree) → IsTreeOf source tree → IsOfText tree
 tree_of_text source tree of =
-    text_spelled source of.tokens tree (IsUtf8-from_is_utf8 source of.text.characters) of.text.short of.cut of.spelled
+    text_spelled source of.tokens tree (IsUtf8-from_is_utf8 source (no_fault_text source of.text).characters) (no_fault_text source of.text).short of.cut of.spelled
 
 tree_has_utf8 : (source : List ℕ) (tree : ProgramTree) → IsTreeOf source tree → HasUtf8Names tree
 tree_has_utf8 source tree of =
-    spelled_named of.tokens tree of.spelled (token_texts source of.tokens (IsUtf8-from_is_utf8 source of.text.characters) of.cut)
+    spelled_named of.tokens tree of.spelled (token_texts source of.tokens (IsUtf8-from_is_utf8 source (no_fault_text source of.text).characters) of.cut)
 
 -- ---- names
 

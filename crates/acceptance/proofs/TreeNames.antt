@@ -4,11 +4,13 @@ use Rattle.std.proofs.Common.{ℕ, List, [], ◌∷◌, sym, subst, inl, inr}
 use Rattle.std.specs.Prelude.{All, IsUtf8}
 use Rattle.std.proofs.lemmas.List.Elements.{All-nil, All-cons}
 use Rattle.lexer.specs.Terminal.{Terminal}
-use Rattle.syntax.specs.Form.{Form, many, ◌·◌}
-use Rattle.syntax.specs.Grammar.{SpellsProgram, at, ◌◂◌, base, name, label, direction, written_result, item, program, optional, some, parameter}
+use Rattle.parser.specs.ReadForm.{Form, many, ◌·◌}
+use Rattle.syntax.specs.Grammar.{SpellsProgram}
+use Rattle.parser.specs.ReadGrammar.{at, ◌◂◌, base, name, label, direction, written_result, item, program, optional, some, parameter}
 use Rattle.parser.specs.Parts.{procedure, global, exception, channel, global_value}
 use Rattle.syntax.specs.Tree.{NameTree, ItemTree, ProgramTree}
 use Rattle.parser.proofs.Holds.{Each, Held, Holds, spelled_taken}
+use Rattle.parser.proofs.Productions.{as_paired}
 use Rattle.types.specs.Laws.{HasUtf8Names}
 use Rattle.types.specs.Resolution.{item_name}
 
@@ -88,5 +90,5 @@ module _ (room : ℕ) where
 
 pub spelled_named : (tokens : List Terminal) (tree : ProgramTree) → SpellsProgram tokens tree → All IsText tokens → HasUtf8Names tree
 spelled_named tokens tree spelled all =
-    let taken = spelled_taken IsText Nothing (λ symbol room tree k h. tt) program 64 tokens tree [] spelled all in
+    let taken = spelled_taken IsText Nothing (λ symbol room tree k h. tt) program 64 tokens tree [] (as_paired 0 tokens tree spelled) all in
     program_named 64 tree taken.count taken.holds

@@ -1,5 +1,6 @@
 pub mod Steps
 pub mod Coherent
+pub mod Spelt
 pub mod Taken
 pub mod Again
 pub mod Lawful

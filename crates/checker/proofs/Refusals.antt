@@ -5,7 +5,9 @@ use Rattle.principals.specs.ActsFor.{PrincipalHierarchy}
 use Rattle.principals.specs.Laws.{IsNotReadAndRefused}
 use Rattle.acceptance.specs.Accepted.{HasHierarchy}
 use Rattle.acceptance.specs.Laws.{HasOneVerdict, Accepted, Refused}
-use Rattle.acceptance.specs.Refused.{IsHierarchyRefused, IsNoText, Hierarchy, NoText, NotUtf8, Source, TooLong, Unreadable, Wrong}
+use Rattle.acceptance.proofs.Phases.{hierarchy_refused, read_fits}
+use Rattle.acceptance.proofs.Texts.{no_text_fault}
+use Rattle.acceptance.specs.Refused.{IsHierarchyRefused, IsNoText, NoText, NotUtf8, Source, TooLong, Unreadable, Wrong}
 use Rattle.acceptance.specs.declared.kind.RefusalKind.{RefusalKind}
 use Rattle.acceptance.specs.declared.kind.RefusalKind.TheVariants as kinds
 use Rattle.acceptance.specs.declared.kind.Text.{Text}
@@ -18,13 +20,13 @@ pub in_hierarchy : (hierarchy source : List ℕ) (kind : RefusalKind) (at : ℕ)
     IsFirstFault hierarchy source (refusal_at texts.Hierarchy hierarchy kind at None)
 in_hierarchy hierarchy source kind at refused = record {
   at = at;
-  refused = Hierarchy kind at refused;
+  refused = hierarchy_refused hierarchy source kind at refused;
   place_of = refl;
 }
 
 -- bytes that are no text have no hierarchy
 no_text_no_hierarchy : (text : List ℕ) (kind : RefusalKind) (at : ℕ) → IsNoText text kind at → (h : PrincipalHierarchy) → ¬ HasHierarchy text h
-no_text_no_hierarchy text _ _ (TooLong long) h has = omega (arith, long, has.hierarchy_of.has_entries.fits)
+no_text_no_hierarchy text _ _ (TooLong long) h has = omega (arith, long, read_fits text h has.hierarchy_of)
 no_text_no_hierarchy text _ _ (NotUtf8 short other) h has = other has.characters
 
 -- nor has a text that is refused
@@ -49,7 +51,7 @@ unread_hierarchy hierarchy source refusal unread =
 pub unread_source : (h : PrincipalHierarchy) (source : List ℕ) (refusal : Refusal) → IsUnread texts.Source source refusal → IsSourceFault h source refusal
 unread_source h source refusal unread =
     subst (IsSourceFault h source) (sym unread.refusal_is)
-    (record { text_is = refl; at = 0; refused = NoText unread.kind 0 unread.no_text; place_of = refl })
+    (record { text_is = refl; at = 0; refused = NoText unread.kind (no_text_fault source unread.kind 0 unread.no_text).0; place_of = refl })
 
 -- what is refused of the source under the hierarchy of the other text is the first fault of the two
 pub in_source : (hierarchy source : List ℕ) (h : PrincipalHierarchy) → HasHierarchy hierarchy h → (refusal : Refusal) → IsSourceFault h source refusal →

@@ -1,6 +1,6 @@
 //! The phases that come before labels, in their order.
 
-ghost use Rattle.acceptance.specs.Accepted.{IsResolvedFrom, IsText, IsTreeOf};
+ghost use Rattle.acceptance.specs.Accepted.{IsResolvedFrom, IsTreeOf, text_fault};
 ghost use Rattle.checker.specs.Found.{IsBeforeLabels, IsFoundRefusal};
 ghost use Rattle.common.specs.Answers.{IfRefused};
 ghost use Rattle.path_map.specs.EndsOf.{AreEndsOf};
@@ -66,7 +66,7 @@ fn resolve_source(
     hierarchy: &Hierarchy,
     source: &str,
 ) -> Result<Core, OrNoMemory<RefusalAt<RefusalKind>>>
-    requires text { IsText source.now }
+    requires text { text_fault source.now ≡ None }
     ensures resolved { IfOk result (λ core.
         IsResolvedFrom hierarchy.now source.now (program_of core)) }
     ensures first_fault { IfErr result (IfRefused (IsFoundRefusal hierarchy.now source.now)) }
@@ -84,7 +84,7 @@ fn read<'a>(
     arena: &'a Bump,
     source: &'a str,
 ) -> Result<syntax::Program<'a>, OrNoMemory<RefusalAt<RefusalKind>>>
-    requires text { IsText source.now }
+    requires text { text_fault source.now ≡ None }
     ensures spelled { IfOk result (λ tree. IsTreeOf source.now (program_tree tree)) }
     ensures first_fault { (h : PrincipalHierarchy) → IfErr result (IfRefused
         (IsFoundRefusal h source.now)) }

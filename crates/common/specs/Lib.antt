@@ -5,3 +5,4 @@ pub mod Integers
 pub mod Message
 pub mod Operators
 pub mod Results
+pub mod Values

@@ -96,6 +96,17 @@ impl Sameness {
     }
 }
 
+/// An operator that always evaluates both operands.
+#[derive(Clone, Copy, Debug, PartialEq, Eq)]
+pub enum Operator {
+    /// An int of two ints, or the exception `Arith` where the divisor is 0.
+    Compute(Arithmetic),
+    /// A truth value of two ints.
+    Compare(Comparison),
+    /// A truth value of two truth values.
+    Match(Sameness),
+}
+
 /// An operator that evaluates its right operand only where the left one does not decide.
 #[derive(Clone, Copy, Debug, PartialEq, Eq)]
 pub enum Connective {

@@ -9,12 +9,13 @@ use Rattle.resolved.specs.Program.{Program}
 use Rattle.modules.specs.Contents.{ModuleContents}
 use Rattle.modules.specs.Isolated.{channel_label_under, module_view, StaysIsolated}
 use Rattle.modules.specs.Machine.{after_steps, sent_after}
+use Rattle.modules.proofs.Isolated.{views-isolated}
 use Rattle.lowering.specs.SameMeaning.{SameMeaning}
 use Rattle.lowering.specs.Interface.{HasInterfaceOf}
 use Rattle.compiler.proofs.Readers.{contains-module, seen-module, agree-module}
 
 pub isolated-module : (program : Program) (m : ModuleContents) → HasInterfaceOf program m → SameMeaning program (after_steps m) → IsolatedUnderLarger program → StaysIsolated m
-isolated-module program m same kept isolated h is_hierarchy contains p first second agree i j =
+isolated-module program m same kept isolated h is_hierarchy contains = views-isolated h m (λ p first second agree i j.
     let xs : List Pair = sent_by program first i in
     let ys : List Pair = sent_by program second j in
     let related : OneIsPrefix (module_view h m p xs) (module_view h m p ys) =
@@ -23,4 +24,4 @@ isolated-module program m same kept isolated h is_hierarchy contains p first sec
     (isolated h is_hierarchy (contains-module program m same h contains) p first second (agree-module program m same h p first second agree) i j)) in
     prefixes-of-two (module_view h m p (sent_after m first i)) (module_view h m p (sent_after m second j)) (module_view h m p xs) (module_view h m p ys)
     (seen-prefix h (channel_label_under h m) p (sent_after m first i) xs (kept.no_more first i))
-    (seen-prefix h (channel_label_under h m) p (sent_after m second j) ys (kept.no_more second j)) related
+    (seen-prefix h (channel_label_under h m) p (sent_after m second j) ys (kept.no_more second j)) related)

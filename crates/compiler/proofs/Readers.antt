@@ -6,6 +6,7 @@ use Rattle.common.specs.declared.sent.Pair.{Pair}
 use Rattle.labels.specs.Carried.{carried_label, label_under}
 use Rattle.labels.specs.Label.{may_read}
 use Rattle.labels.specs.Sent.{pairs_for}
+use Rattle.labels.proofs.Tests.{may_read-decides}
 use Rattle.common.specs.declared.direction.Direction.TheVariants as channel
 use Rattle.resolved.specs.Isolated.{Agree}
 use Rattle.resolved.specs.Labelled.{channel_label}
@@ -58,7 +59,8 @@ module _ (program : Program) (m : ModuleContents) (same : HasInterfaceOf program
       → Agree h (λ n. label_under program.hierarchy h (channel_label program n)) program p first second
   agree-module h p first second agree n there input reads =
       agree n (channel_contents (channel_at program n)) (channel-there n there) input
-      (ap (λ label. may_read h p label) (sym (ap (λ (channel : Option ChannelContents). label_under m.hierarchy h (label_in channel)) (channel-there n there)) ∙ label_under-module h n) ∙ reads)
+      ((may_read-decides h p (label_under m.hierarchy h (channel_contents (channel_at program n)).label)).0
+      (ap (λ label. may_read h p label) (sym (ap (λ (channel : Option ChannelContents). label_under m.hierarchy h (label_in channel)) (channel-there n there)) ∙ label_under-module h n) ∙ reads))
     where
       channel-there : (k : ℕ) → k < length program.channels → slice_get m.channels k ≡ Some (channel_contents (channel_at program k))
       channel-there k below = ap (λ (all : List ChannelContents). slice_get all k) same.channels ∙ channel_there program.channels k (record { direction = channel.Output; name = []; label = [] }) below

@@ -47,8 +47,8 @@ module _ (m : ModuleContents) (p : ProcedureContents) where
       → kinds_left m p i kinds ≡ Some after
   leaves t at kinds after i r is e =
       let found = t.finds at kinds r in
-      let same : i ≡ found.0 = same_Some i found.0 (sym is ∙ found.2.there) in
-      let left : kinds_left m p i kinds ≡ Some found.1 = ap (λ x. kinds_left m p x kinds) same ∙ found.2.left in
+      let same : i ≡ found.0 = same_Some i found.0 (sym is ∙ found.2.0) in
+      let left : kinds_left m p i kinds ≡ Some found.1 = ap (λ x. kinds_left m p x kinds) same ∙ found.2.1 in
       let both : Leaves found.1 ≡ Leaves after = sym (effect-is m p i kinds found.1 left) ∙ e in
       let equal : found.1 ≡ after = cc in
       left ∙ ap (λ l. Some l) equal
@@ -56,8 +56,8 @@ module _ (m : ModuleContents) (p : ProcedureContents) where
   -- along an edge
   along : IsTyped m p → (at : ℕ) (kinds : List BaseType) (to : ℕ) (after : List BaseType) → Reaches m p at kinds → Edge m p at kinds to after → Reaches m p to after
   along t at kinds to after r (next i _ _ is e goes to_is) =
-      subst (λ a. Reaches m p a after) (sym to_is) (typed.next at kinds after i r (record { there = is; left = leaves t at kinds after i r is e }) goes)
-  along t at kinds to after r (jumps i _ _ is e target) = typed.jumps at to kinds after i r (record { there = is; left = leaves t at kinds after i r is e }) target
+      subst (λ a. Reaches m p a after) (sym to_is) (typed.next at kinds after i r (is, leaves t at kinds after i r is e) goes)
+  along t at kinds to after r (jumps i _ _ is e target) = typed.jumps at to kinds after i r (is, leaves t at kinds after i r is e) target
   along t at kinds _ _ r (caught i handler is found start end) = typed.caught at kinds handler r found start end
 
   -- what a flow has control may reach
@@ -76,14 +76,14 @@ module _ (m : ModuleContents) (p : ProcedureContents) where
   well : IsTyped m p → (offset : ℕ) (wrong : CodeRefusalKind) → IsRefusedForOperands m p offset wrong → ⊥
   well t _ _ (misses table at kinds i wrong f has is e) =
       let found = t.finds at kinds (reached t table f at kinds has) in
-      let same : i ≡ found.0 = same_Some i found.0 (sym is ∙ found.2.there) in
-      let no : Misses wrong ≡ Leaves found.1 = sym e ∙ (ap (λ x. effect m p x kinds) same ∙ effect-is m p found.0 kinds found.1 found.2.left) in
+      let same : i ≡ found.0 = same_Some i found.0 (sym is ∙ found.2.0) in
+      let no : Misses wrong ≡ Leaves found.1 = sym e ∙ (ap (λ x. effect m p x kinds) same ∙ effect-is m p found.0 kinds found.1 found.2.1) in
       absurd (cc)
   well t _ _ (meets table at kinds to after others f has edge inside there ne) =
       ne (t.one to after others (along t at kinds to after (reached t table f at kinds has) edge) (reached t table f to others there))
   well t _ _ (falls table kinds f has) =
       let found = t.finds (code_length p.code) kinds (reached t table f (code_length p.code) kinds has) in
-      absurd (omega (arith, start_inside p.code (code_length p.code) found.0 found.2.there))
+      absurd (omega (arith, start_inside p.code (code_length p.code) found.0 found.2.0))
 
   both_right : (a b : Bool) → IsTrue (a && b) → (if a then unless b kind.SlotOrIndex else Some kind.Jump) ≡ None
   both_right a b h = let parts = and_parts a b h in rw (parts.0, parts.1) refl
@@ -193,12 +193,12 @@ module _ (m : ModuleContents) (p : ProcedureContents) (right : IsRight m p) (fre
   in_flow : (at : ℕ) (kinds : List BaseType) → Reaches m p at kinds → IsInFlow m p at kinds × IsBoundary p at
   in_flow _ _ typed.starts = (start_in_flow m p, (boundaries m p right).first)
   in_flow _ _ (typed.next at kinds after i r leaves goes) = (
-    along_in_flow m p free at kinds (at + width_of i) after (in_flow at kinds r).0 (next i (at + width_of i) after leaves.there (effect-is m p i kinds after leaves.left) goes refl),
-    (boundaries m p right).next at i leaves.there,
+    along_in_flow m p free at kinds (at + width_of i) after (in_flow at kinds r).0 (next i (at + width_of i) after leaves.0 (effect-is m p i kinds after leaves.1) goes refl),
+    (boundaries m p right).next at i leaves.0,
   )
   in_flow _ _ (typed.jumps at to kinds after i r leaves target) = (
-    along_in_flow m p free at kinds to after (in_flow at kinds r).0 (jumps i to after leaves.there (effect-is m p i kinds after leaves.left) target),
-    inr ((boundaries m p right).jumps at i to leaves.there target),
+    along_in_flow m p free at kinds to after (in_flow at kinds r).0 (jumps i to after leaves.0 (effect-is m p i kinds after leaves.1) target),
+    inr ((boundaries m p right).jumps at i to leaves.0 target),
   )
   in_flow _ _ (typed.caught at kinds handler r found start end) =
       let before = in_flow at kinds r in
@@ -223,7 +223,7 @@ module _ (m : ModuleContents) (p : ProcedureContents) (right : IsRight m p) (fre
           go : (e : Effect) → effect m p i kinds ≡ e → (i : Instruction) × (after : List BaseType) × typed.Leaves m p at kinds i after
           go (Leaves after) e =
               let named = and_parts (option_map_or (is_start p) (entry_of i).target true) (signature m p i).there (right_at at i there) in
-              (i, after, record { there = there; left = left-is m p i kinds after named.1 e })
+              (i, after, (there, left-is m p i kinds after named.1 e))
           go (Misses wrong) e = absurd (flow_finds m p free at kinds i wrong (in_flow at kinds r).0 there e)
 
   one : (at : ℕ) (kinds others : List BaseType) → Reaches m p at kinds → Reaches m p at others → kinds ≡ others

@@ -21,13 +21,11 @@ module _ (m : ModuleContents) (procedure : ProcedureContents) where
 
   -- the kinds of the operands that an instruction leaves of others, the top first; none where it misses one or finds one of another kind
   abbrev pub kinds_left : Instruction → List BaseType → Option (List BaseType)
-  kinds_left i kinds =
-      option_map_or (λ rule. option_map (λ popped. rule.pushes ++ popped.1) (popped_by (λ kind. kind) rule kinds)) (rule_in i) None
+  kinds_left i kinds = option_map_or (λ rule. option_map (λ popped. rule.pushes ++ popped.1) (popped_by (λ kind. kind) rule kinds)) (rule_in i) None
 
   -- an instruction stands at an offset, and leaves these kinds of those that it finds
-  pub record Leaves (at : ℕ) (kinds : List BaseType) (i : Instruction) (after : List BaseType) : Type 0 where
-    pub there : instruction_at procedure.code at ≡ Some i
-    pub left : kinds_left i kinds ≡ Some after
+  abbrev pub Leaves : ℕ → List BaseType → Instruction → List BaseType → Type 0
+  Leaves at kinds i after = (instruction_at procedure.code at ≡ Some i) × (kinds_left i kinds ≡ Some after)
 
   -- control may reach an offset with operands of some kinds: the start of the code with none; from an instruction, with those that it
   -- leaves, the next one and its target; and with none a handler whose range holds an offset that it reaches

@@ -9,7 +9,7 @@ use Rattle.resolved.specs.declared.program.Core.{Core}
 use Rattle.resolved.specs.CoreOf.{program_of}
 use Rattle.resolved.specs.Program.{Program}
 use Rattle.common.specs.declared.operator.Connective.{Connective}
-use Rattle.resolved.specs.declared.expression.Operator.{Operator}
+use Rattle.common.specs.declared.operator.Operator.{Operator}
 use Rattle.resolved.specs.Tree.{Expression, Binary, Short}
 use Rattle.common.specs.declared.exceptions.TheConstants.{ARITH}
 use Rattle.resolved.specs.Exits.{divisor_can_raise, is_division, operator_raises, raises, list_if}

@@ -7,8 +7,9 @@ ghost use Rattle.resolved.specs.TreeOf.{expression_of};
 ghost use Rattle.std.specs.Prelude.{IfOk, OnOk, map, ◌&&◌, ◌||◌, ◌≡◌};
 
 use crate::table::Table;
+use common::Operator;
 use path_map::raises::{divisor_can_raise, index_can_raise, is_division};
-use resolved::expression::{Expression, Operator};
+use resolved::expression::Expression;
 use resolved::target::Target;
 use solver::Left;
 use std::alloc::AllocError;

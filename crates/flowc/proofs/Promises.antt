@@ -3,7 +3,7 @@ use Rattle.std.proofs.Common.{◌≡◌, ℕ, ◌+◌, ◌-◌, ◌≤◌, List,
 use Rattle.std.specs.Str.{IsUtf8}
 use Rattle.std.proofs.lemmas.Bool.{cases_lt}
 use Rattle.std.specs.String.{string_bytes}
-use Rattle.std.specs.Prelude.{IfSome, ◌||◌, filter, option_map}
+use Rattle.std.specs.Prelude.{IfSome, Ok, ◌||◌, filter, option_map}
 use Rattle.std.specs.List.{list_all, list_any}
 use Rattle.std.proofs.lemmas.Bool.Decides.{same_from_decides}
 use Rattle.std.proofs.lemmas.Option.{none-some, same_Some}
@@ -12,6 +12,7 @@ use Rattle.principals.specs.ActsFor.{PrincipalHierarchy, AllDifferent, ContainsH
 use Rattle.principals.specs.Laws.{HasOneHierarchy, IsNotReadAndRefused}
 use Rattle.principals.proofs.Closure.{acts_for-decides}
 use Rattle.principals.proofs.Names.{one_number}
+use Rattle.principals.specs.HierarchyText.{IsReadAs, Formed}
 use Rattle.principals.proofs.Total.{described_is_hierarchy}
 use Rattle.labels.specs.Carried.{label_under}
 use Rattle.labels.specs.Label.{Label, may_read}
@@ -25,8 +26,10 @@ use Rattle.resolved.specs.SourceState.{World}
 use Rattle.modules.specs.Contents.{ModuleContents}
 use Rattle.bytecode.specs.Decoded.{first_refusal}
 use Rattle.modules.specs.ByteFormat.{Fits, Spells}
+use Rattle.bytecode.proofs.Both.{module_fits}
 use Rattle.modules.specs.Format.{module_file}
 use Rattle.modules.specs.Isolated.{AgreeOnInputs, IsIsolated, StaysIsolated, channel_label, module_view}
+use Rattle.modules.proofs.Isolated.{isolated-views}
 use Rattle.modules.proofs.Own.{module-hierarchy, own-isolation, own-view}
 use Rattle.modules.specs.Machine.{Machine, Ending, after_steps, machine_code, sent_after, sent_of}
 use Rattle.channels.specs.World.{InputNumbers, input_names, numbers_of_channel}
@@ -105,7 +108,7 @@ no_more fresh said source code compiled world under p pairs shows =
     let numbers = numbers_of_channel m world in
     let n = sessions.steps_of shows in
     subst (λ (list : List Pair). IsPrefix list (program_view program under p numbers n))
-    (sym (fresh code world under p pairs m compiled.code_of.spelled shows ∙ seen program m compiled.code_of.spelled.0 compiled.code_of.interface under p (sent_after m numbers n)))
+    (sym (fresh code world under p pairs m compiled.code_of.spelled shows ∙ seen program m (module_fits m _ compiled.code_of.spelled) compiled.code_of.interface under p (sent_after m numbers n)))
     (seen-part program under p (sent_after m numbers n) (sent_by program numbers n) (compiled.code_of.kept.no_more numbers n))
 
 -- a run that has ended sends no more
@@ -125,7 +128,7 @@ shown-by fresh said source code compiled world under p sent pairs shows later =
     let numbers = numbers_of_channel m world in
     let n = sessions.steps_of shows in
     subst (λ (list : List Pair). IsPrefix (seen_under program under p sent) list)
-    (sym (fresh code world under p pairs m compiled.code_of.spelled shows ∙ seen program m compiled.code_of.spelled.0 compiled.code_of.interface under p (sent_after m numbers n)))
+    (sym (fresh code world under p pairs m compiled.code_of.spelled shows ∙ seen program m (module_fits m _ compiled.code_of.spelled) compiled.code_of.interface under p (sent_after m numbers n)))
     (seen-part program under p sent (sent_after m numbers n) later)
 
 pub no_less : sessions.SessionsAreFreshRuns → sessions.SessionsEndAsReported → SessionsShowNoLess
@@ -159,7 +162,7 @@ ends_as_the_source fresh ends said source code compiled world under p pairs show
     let source_ends = compiled.code_of.kept.ends_so numbers n ending (sent_after m numbers n) over in (
       source_ends.0,
       fresh code world under p pairs m compiled.code_of.spelled shows
-          ∙ seen program m compiled.code_of.spelled.0 compiled.code_of.interface under p (sent_after m numbers n)
+          ∙ seen program m (module_fits m _ compiled.code_of.spelled) compiled.code_of.interface under p (sent_after m numbers n)
           ∙ ap (λ (list : List Pair). seen_under program under p list) (sym source_ends.1),
     )
 
@@ -202,7 +205,7 @@ isolated one law can_be said source code compiled under kept p first second agre
     let m = module_in compiled in
     let can = can_be code first under p pairs shown in
     let contained = subst (λ (w : ModuleContents). IsContained w under) (one can.0 m code can.1.spelled compiled.code_of.spelled) can.1.contained in
-    law code m under compiled.code_of.spelled (there_isolated m compiled.code_of.spelled.0 compiled.code_of.isolated under kept contained)
+    law code m under compiled.code_of.spelled (there_isolated m (module_fits m _ compiled.code_of.spelled) compiled.code_of.isolated under kept contained)
     p first second agree pairs others shown other_shown
 
 -- ---- the program
@@ -229,10 +232,14 @@ operator_line : (m : ModuleContents) (h : PrincipalHierarchy) (principal : Optio
     → reported_line m principal end ≡ end_line m.exceptions end
 operator_line m h principal end none = ap (λ (o : Option ℕ). reported_line m o end) none
 
+-- what a text is read as is a hierarchy
+read_is_hierarchy : (text : List ℕ) (h : PrincipalHierarchy) → IsReadAs text (Ok h) → IsHierarchy h
+read_is_hierarchy text h (Formed _ entries _ _ _ _ built) = described_is_hierarchy entries h built
+
 -- the hierarchy that a run is viewed under is one, and contains the module's
 viewed_hierarchy : (m : ModuleContents) → Fits module_file m → (under : Option (List ℕ)) (h : PrincipalHierarchy) → IsViewedUnder m under h → IsHierarchy h
 viewed_hierarchy m fits None h is = subst IsHierarchy (sym is) (module-hierarchy m fits)
-viewed_hierarchy m fits (Some text) h is = described_is_hierarchy is.0.hierarchy_of.entries h is.0.hierarchy_of.described
+viewed_hierarchy m fits (Some text) h is = read_is_hierarchy text h is.0.hierarchy_of
 
 viewed_isolated : (m : ModuleContents) → Fits module_file m → StaysIsolated m → (under : Option (List ℕ)) (h : PrincipalHierarchy) → IsViewedUnder m under h → IsIsolated h m
 viewed_isolated m fits stays None h is = subst (λ (k : PrincipalHierarchy). IsIsolated k m) (sym is) (own-isolation m fits stays)
@@ -249,7 +256,7 @@ texts_prefix m h differ isolated_module name first second agree (Some p) (Some q
     let same : p ≡ q = one_number h.names differ p q name is also in
     subst (λ (n : ℕ). OneIsPrefix (text_shown h m first (Some p) i) (text_shown h m second (Some n) j)) same
     (views-prefix m (module_view h m p (sent_after m (numbers_in m first) i)) (module_view h m p (sent_after m (numbers_in m second) j))
-    (isolated_module p (numbers_in m first) (numbers_in m second) (agree p is) i j))
+    (isolated-views h m isolated_module p (numbers_in m first) (numbers_in m second) (agree p is) i j))
 
 -- two runs of one module under one hierarchy
 module _ (once : HasOneHierarchy) (m : ModuleContents) (fits : Fits module_file m) (stays : StaysIsolated m) (under : Option (List ℕ)) (name first second : List ℕ)
@@ -290,7 +297,7 @@ module _ (one : (m n : ModuleContents) (bytes : List ℕ) → Spells module_file
       let same_again = one again.program m code again.can_run.spelled compiled.code_of.spelled in
       prefixes-of-two out other (text_shown run.hierarchy run.program first run.principal run.taken) (text_shown again.hierarchy again.program second again.principal again.taken)
       run.prefix again.prefix
-      (two_runs once m compiled.code_of.spelled.0 compiled.code_of.isolated under name first second agree run.program again.program same same_again
+      (two_runs once m (module_fits m _ compiled.code_of.spelled) compiled.code_of.isolated under name first second agree run.program again.program same same_again
       run.hierarchy again.hierarchy run.can_run.viewed again.can_run.viewed
       run.principal again.principal run.can_run.observed again.can_run.observed run.taken again.taken)
 

@@ -1,5 +1,6 @@
 -- What is refused is wrong.
 use Rattle.std.proofs.Common.{◌≡◌, ap, sym, ◌∙◌, subst, arith, Some, None, ℕ, List, [], ◌∷◌, refl, inl, inr, ◌⊎◌, Bool, true, false, IsTrue, ◌↔◌, Option, Result, Ok, Err, IfOk, IfErr, OnErr, MatchResult}
+use Rattle.acceptance.proofs.Phases.{read_fits}
 use Rattle.acceptance.specs.Accepted.{HasHierarchy}
 use Rattle.acceptance.specs.Refused.{IsHierarchyRefused, IsNoText, NotUtf8, TooLong, Unreadable, Wrong}
 use Rattle.acceptance.specs.declared.kind.RefusalKind.{RefusalKind}
@@ -75,7 +76,7 @@ run_shows code text code' text' under under' name name' steps status old new (Er
 -- ---- hierarchies of texts
 
 no_text_no_hierarchy : (text : List ℕ) (kind : RefusalKind) (at : ℕ) → IsNoText text kind at → HasNoHierarchy text
-no_text_no_hierarchy text _ _ (TooLong long) h has = omega (arith, long, has.hierarchy_of.has_entries.fits)
+no_text_no_hierarchy text _ _ (TooLong long) h has = omega (arith, long, read_fits text h has.hierarchy_of)
 no_text_no_hierarchy text _ _ (NotUtf8 short other) h has = other has.characters
 
 -- a text that is refused has no hierarchy

@@ -10,18 +10,19 @@ use Rattle.std.proofs.Math.IntN.{+ℤ_invr, +ℤ_idr}
 use Rattle.std.specs.Int.{int_wrap}
 use mir.Syntax.{w32}
 use Rattle.resolved.specs.declared.expression.Variable.{Variable}
-use Rattle.resolved.specs.declared.expression.Value.{Value}
-use Rattle.resolved.specs.declared.expression.Value.TheVariants.{Number, Truth}
+use Rattle.common.specs.declared.value.Value.{Value}
+use Rattle.common.specs.declared.value.Value.TheVariants.{Int as Number, Bool as Truth}
 use Rattle.common.specs.declared.operator.Prefix.TheVariants.{Negate}
-use Rattle.resolved.specs.declared.expression.Operator.{Operator}
-use Rattle.resolved.specs.declared.expression.Operator.TheVariants.{Compute, Compare, Match}
+use Rattle.common.specs.declared.operator.Operator.{Operator}
+use Rattle.common.specs.declared.operator.Operator.TheVariants.{Compute, Compare, Match}
 use Rattle.common.specs.declared.operator.Arithmetic.TheVariants.{Add, Subtract, Multiply, Divide, Remainder, Bits}
 use Rattle.resolved.specs.declared.statement.Exit.{Exit}
 use Rattle.resolved.specs.declared.statement.Exit.TheVariants.{Normal, Return, Break, Continue, Throw}
 use Rattle.resolved.specs.Tree.{Expression, Integer, Logical, Read, Element, Unary, Binary, Short, Statement, Assign, Clear, Store, Receive, Send, Call, If, While, Leave, ReturnWith, Try, Nested, Block, Empty, Then, Handlers, NoMore, Catch}
 use Rattle.resolved.specs.Program.{Program, procedure_at}
 use Rattle.common.specs.Operators.{wrapped}
-use Rattle.resolved.specs.Value.{Evaluated, Yields, Raises, then_with, truth_in, number_in, literal_number, or_arith, operator_value, decides, in_range, checked_index}
+use Rattle.common.specs.Values.{truth_in, number_in}
+use Rattle.resolved.specs.Value.{Evaluated, Yields, Raises, then_with, literal_number, or_arith, operator_evaluated, decides, in_range, checked_index}
 use Rattle.resolved.specs.SourceState.{SourceState, value_of, values_of, cells, cell_at, assigned, stored, cleared}
 use Rattle.resolved.specs.Meaning.{OutOfFuel, Outcome, Ended, Stopped, normally, after, evaluated, looped, fuel, caught, leaving, returned_to, received, sending, Calls, statement_meaning, block_meaning, handlers_meaning, frame_of, calls_with}
 use Rattle.resolved.specs.Exits.{same_exit, has_exit, index_can_raise, divisor_can_raise, index_raises, operator_raises, raises, thrown_exits, declared_by, leaves_loop, handles, passes, then_exits, statement_exits, block_exits, handlers_exits}
@@ -121,7 +122,7 @@ raises-division s e w result f = go (divisor_can_raise e) refl (is_zero (number_
     go false g true h = let i : true ≡ false = sym h ∙ divisor-not_zero s e w g f in absurd (cc)
 
 raises-operator : (s : SourceState) (operator : Operator) (e : Expression) (v w : Value) → value_of s e ≡ Yields w →
-    RaisesAmong (operator_raises operator e) (operator_value operator v w)
+    RaisesAmong (operator_raises operator e) (operator_evaluated operator v w)
 raises-operator s (Compute Add) e v w f = raises-none [] _
 raises-operator s (Compute Subtract) e v w f = raises-none [] _
 raises-operator s (Compute Multiply) e v w f = raises-none [] _
@@ -151,8 +152,8 @@ expression-raises s (Unary prefix e) =
     rw (← append-nil (raises e)) (raises-then (raises e) [] (value_of s e) _ (expression-raises s e) (λ v f. raises-none [] _))
 expression-raises s (Binary operator d e) =
     rw append_assoc (raises-then (raises d) (raises e ++ operator_raises operator e) (value_of s d)
-    (λ v. then_with (value_of s e) (λ w. operator_value operator v w)) (expression-raises s d) (λ v f.
-    raises-then (raises e) (operator_raises operator e) (value_of s e) (λ w. operator_value operator v w) (expression-raises s e) (λ w g.
+    (λ v. then_with (value_of s e) (λ w. operator_evaluated operator v w)) (expression-raises s d) (λ v f.
+    raises-then (raises e) (operator_raises operator e) (value_of s e) (λ w. operator_evaluated operator v w) (expression-raises s e) (λ w g.
     raises-operator s operator e v w g)))
 expression-raises s (Short connective d e) =
     raises-then (raises d) (raises e) (value_of s d) (λ v. if decides connective v then Yields v else value_of s e) (expression-raises s d) (λ v f.

@@ -9,13 +9,14 @@ use Rattle.principals.specs.ActsFor.{PrincipalHierarchy}
 use Rattle.labels.specs.Label.{flows}
 use Rattle.resolved.specs.declared.expression.Variable.{Variable}
 use Rattle.resolved.specs.declared.expression.Variable.TheVariants.{Local}
-use Rattle.resolved.specs.declared.expression.Value.{Value}
-use Rattle.resolved.specs.declared.expression.Value.TheVariants.{Number}
+use Rattle.common.specs.declared.value.Value.{Value}
+use Rattle.common.specs.declared.value.Value.TheVariants.{Int as Number}
 use Rattle.resolved.specs.declared.statement.Exit.{Exit}
 use Rattle.resolved.specs.declared.statement.Exit.TheVariants.{Normal, Return, Break, Continue, Throw}
 use Rattle.resolved.specs.Tree.{Expression, Statement, Assign, Clear, Store, Receive, Send, Call, If, While, Leave, ReturnWith, Try, Nested, Block, Empty, Then, Handlers, NoMore, Catch}
 use Rattle.resolved.specs.Program.{Program, ProcedureEntry, procedure_at}
-use Rattle.resolved.specs.Value.{Raises, truth_in, checked_index}
+use Rattle.common.specs.Values.{truth_in}
+use Rattle.resolved.specs.Value.{Raises, checked_index}
 use Rattle.resolved.specs.SourceState.{SourceState, assigned, stored, cleared, value_of, values_of}
 use Rattle.resolved.specs.Meaning.{Stop, Outcome, Ended, Stopped, normally, after, caught, given_to, received, sending, returned_to, Calls, statement_meaning, block_meaning, handlers_meaning, state_after}
 use Rattle.resolved.specs.Exits.{same_exit, has_exit, raises, thrown_exits, leaves_loop, handles, passes, statement_exits, block_exits, index_can_raise, list_if}

@@ -7,6 +7,7 @@ use Rattle.resolved.specs.Program.{Program}
 use Rattle.resolved.specs.Meaning.{Outcome, Ended, Stopped, statement_meaning, calls_with, state_after, frame_limit}
 use Rattle.resolved.specs.Exits.{statement_exits}
 use Rattle.resolved.specs.Labelled.{Scope, here, Labelling, ExitLabels, Labelled, result_label, exit_faults}
+use Rattle.resolved.proofs.Demands.{labelled-fits}
 use Rattle.resolved.specs.LabelRules.{statement_rule, statement_exit_labels}
 use Rattle.resolved.specs.Isolated.{Isolated}
 use Rattle.isolation.specs.Confinement.{SameFor, UnreadExit, StatementsAreConfined, PossibleEndsAreUnread}
@@ -28,7 +29,7 @@ use Rattle.isolation.proofs.Readers.{principal-reader, carried-reader}
 accepted-from : (program : Program) → exit_faults program ≡ [] → (labelled : Labelled program) → Accepted program labelled.0
 accepted-from program faults labelled = record {
   declared = ends-as-declared program faults;
-  fits = procedure-fits program labelled.0 labelled.1;
+  fits = procedure-fits program labelled.0 (labelled-fits program labelled);
 }
 
 unread-end : (scope : Scope) (labelling : Labelling) (p : ℕ) (exits : ExitLabels) (value : Bool) (o : Outcome) →

@@ -11,9 +11,9 @@ use Rattle.common.specs.declared.sent.Pair.{Pair}
 use Rattle.labels.specs.Label.{Label, flows}
 use Rattle.resolved.specs.declared.expression.Variable.{Variable}
 use Rattle.resolved.specs.declared.expression.Variable.TheVariants.{Global, Local}
-use Rattle.resolved.specs.declared.expression.Value.{Value}
+use Rattle.common.specs.declared.value.Value.{Value}
 use Rattle.resolved.specs.SourceState.{SourceState, cells, with_cells}
-use Rattle.resolved.specs.Value.{number_in}
+use Rattle.common.specs.Values.{number_in}
 use Rattle.resolved.specs.Meaning.{sending}
 use Rattle.resolved.specs.Labelled.{Scope, Join, one, Labelling, label_under, join_under, variable_label, channel_label, LabelAtom}
 use Rattle.lattices.specs.Constraints.{Written}

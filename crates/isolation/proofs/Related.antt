@@ -6,11 +6,12 @@ use Rattle.std.proofs.lemmas.List.{append-nil}
 use Rattle.std.proofs.lemmas.List.Elements.{filter-append}
 use Rattle.common.specs.declared.sent.Pair.{Pair}
 use Rattle.labels.specs.Sent.{IsPrefix}
-use Rattle.resolved.specs.declared.expression.Value.{Value}
+use Rattle.common.specs.declared.value.Value.{Value}
 use Rattle.resolved.specs.declared.statement.Exit.{Exit}
 use Rattle.resolved.specs.declared.statement.Exit.TheVariants.{Normal, Return, Break, Continue, Throw}
 use Rattle.resolved.specs.Tree.{Handlers}
-use Rattle.resolved.specs.Value.{Evaluated, Yields, Raises, truth_in}
+use Rattle.common.specs.Values.{truth_in}
+use Rattle.resolved.specs.Value.{Evaluated, Yields, Raises}
 use Rattle.resolved.specs.SourceState.{SourceState}
 use Rattle.resolved.specs.Meaning.{Stop, OutOfFuel, Outcome, Ended, Stopped, normally, thrown, after, evaluated, looped, fuel, caught, state_after}
 use Rattle.resolved.specs.Exits.{same_exit, passes}

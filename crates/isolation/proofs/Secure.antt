@@ -4,13 +4,14 @@ use Rattle.std.specs.Prelude.{Option, Some, None, if◌then◌else◌, ◌==◌,
 use Rattle.principals.specs.ActsFor.{PrincipalHierarchy}
 use Rattle.resolved.specs.declared.expression.Variable.{Variable}
 use Rattle.resolved.specs.declared.expression.Variable.TheVariants.{Local}
-use Rattle.resolved.specs.declared.expression.Value.{Value}
-use Rattle.resolved.specs.declared.expression.Value.TheVariants.{Number}
+use Rattle.common.specs.declared.value.Value.{Value}
+use Rattle.common.specs.declared.value.Value.TheVariants.{Int as Number}
 use Rattle.resolved.specs.declared.statement.Exit.{Exit}
 use Rattle.resolved.specs.declared.statement.Exit.TheVariants.{Normal, Return, Break, Continue, Throw}
 use Rattle.resolved.specs.Tree.{Expression, Statement, Assign, Clear, Store, Receive, Send, Call, If, While, Leave, ReturnWith, Try, Nested, Block, Empty, Then, Handlers, NoMore, Catch}
 use Rattle.resolved.specs.Program.{Program, procedure_at}
-use Rattle.resolved.specs.Value.{truth_in, checked_index, zero_value, base_of}
+use Rattle.common.specs.Values.{truth_in, zero_of, kind_of}
+use Rattle.resolved.specs.Value.{checked_index}
 use Rattle.resolved.specs.SourceState.{SourceState, assigned, stored, cleared, cells, value_of, values_of}
 use Rattle.resolved.specs.Meaning.{Ended, normally, given_to, received, sending, returned_to, Calls, statement_meaning, block_meaning, handlers_meaning}
 use Rattle.resolved.specs.Exits.{same_exit, passes, statement_exits, block_exits, index_can_raise, list_if}
@@ -129,7 +130,7 @@ module _ (h : PrincipalHierarchy) (labelling : Labelling) (reader : Reader h lab
         (read-demand reader scope.program at 1 (q ++ value_label scope e) (ToVariable scope.number x) fits reads)))))))
     statement-secure (Clear at slot) pc fits s t agree =
         agreed_exit Normal (cleared s slot) (cleared t slot) (agree-with_cells (view_of reader scope) s t (Local slot) _ _ agree
-        (λ reads. ap (λ l. map (λ v. zero_value (base_of v)) l) (agree.variables (Local slot) reads)))
+        (λ reads. ap (λ l. map (λ v. zero_of (kind_of v)) l) (agree.variables (Local slot) reads)))
     statement-secure (Store at array len index e) pc fits s t agree =
         let view = view_of reader scope in
         let value = reads_result reader (here scope) in

@@ -1,11 +1,12 @@
 -- One run that an observer cannot see: it changes nothing that the observer reads, and ends at labels that it does not read.
 use Rattle.std.proofs.Common.{◌≡◌, refl, ℕ, zero, suc, Bool, true, false}
 use Rattle.std.specs.Prelude.{Option, None, if◌then◌else◌}
-use Rattle.resolved.specs.declared.expression.Value.{Value}
+use Rattle.common.specs.declared.value.Value.{Value}
 use Rattle.resolved.specs.declared.statement.Exit.{Exit}
 use Rattle.resolved.specs.declared.statement.Exit.TheVariants.{Normal, Return, Break, Continue, Throw}
 use Rattle.resolved.specs.Tree.{Handlers}
-use Rattle.resolved.specs.Value.{Evaluated, Yields, Raises, truth_in}
+use Rattle.common.specs.Values.{truth_in}
+use Rattle.resolved.specs.Value.{Evaluated, Yields, Raises}
 use Rattle.resolved.specs.SourceState.{SourceState}
 use Rattle.resolved.specs.Meaning.{Stop, OutOfFuel, Outcome, Ended, Stopped, normally, after, evaluated, looped, fuel, caught, state_after}
 use Rattle.resolved.specs.Exits.{same_exit, leaves_loop, passes}

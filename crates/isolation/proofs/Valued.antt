@@ -5,7 +5,7 @@ use Rattle.std.specs.List.{list_all}
 use Rattle.resolved.specs.declared.statement.Exit.{Exit}
 use Rattle.resolved.specs.declared.statement.Exit.TheVariants.{Normal, Return, Break, Continue, Throw}
 use Rattle.resolved.specs.Program.{Program, ProcedureEntry, ResultEntry}
-use Rattle.resolved.specs.Value.{base_of}
+use Rattle.common.specs.Values.{kind_of}
 use Rattle.resolved.specs.SourceState.{SourceState}
 use Rattle.resolved.specs.Meaning.{Outcome, Ended, Stopped, leaving, entering, calls_with, block_meaning}
 use Rattle.resolved.specs.Exits.{has_exit, block_exits, fault_unless}
@@ -58,8 +58,8 @@ leaving-gives : (program : Program) (callee : ProcedureEntry) (value : ResultEnt
 leaving-gives program callee value back (Ended Normal r t) is never among some fits = let no : true ≡ false = sym among.among ∙ never in absurd (cc)
 leaving-gives program callee value back (Ended Return None t) is never among some fits = absurd some
 leaving-gives program callee value back (Ended Return (Some v) t) is never among some fits =
-    let given : has_result callee.result (same_base (base_of v)) ≡ true = fits.returned in
-    same_base_is (base_of v) value.base (sym (ap (λ (r : Option ResultEntry). has_result r (same_base (base_of v))) is) ∙ given)
+    let given : has_result callee.result (same_base (kind_of v)) ≡ true = fits.returned in
+    same_base_is (kind_of v) value.base (sym (ap (λ (r : Option ResultEntry). has_result r (same_base (kind_of v))) is) ∙ given)
 leaving-gives program callee value back (Ended Break r t) is never among some fits = tt
 leaving-gives program callee value back (Ended Continue r t) is never among some fits = tt
 leaving-gives program callee value back (Ended (Throw x) r t) is never among some fits = tt

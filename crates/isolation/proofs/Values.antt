@@ -3,14 +3,16 @@
 use Rattle.std.proofs.Common.{◌≡◌, refl, sym, ap, ◌∙◌, ℕ, Bool, true, false, ◌&&◌, List, [], ◌∷◌, ◌++◌, ℤ}
 use Rattle.std.specs.Prelude.{Some, None, if◌then◌else◌, flat_map, nat_abs}
 use Rattle.principals.specs.ActsFor.{PrincipalHierarchy}
-use Rattle.resolved.specs.declared.expression.Value.{Value}
-use Rattle.resolved.specs.declared.expression.Value.TheVariants.{Number, Truth}
-use Rattle.resolved.specs.declared.expression.Operator.{Operator}
-use Rattle.resolved.specs.declared.expression.Operator.TheVariants.{Compute, Compare, Match}
+use Rattle.common.specs.declared.value.Value.{Value}
+use Rattle.common.specs.declared.value.Value.TheVariants.{Int as Number, Bool as Truth}
+use Rattle.common.specs.declared.operator.Operator.{Operator}
+use Rattle.common.specs.declared.operator.Operator.TheVariants.{Compute, Compare, Match}
 use Rattle.common.specs.declared.operator.Arithmetic.TheVariants.{Add, Subtract, Multiply, Divide, Remainder, Bits}
 use Rattle.common.specs.declared.operator.Connective.{Connective}
 use Rattle.resolved.specs.Tree.{Expression, Integer, Logical, Read, Element, Unary, Binary, Short}
-use Rattle.resolved.specs.Value.{Evaluated, Yields, Raises, then_with, number_in, literal_number, or_arith, prefix_value, operator_value, decides, in_range, checked_index}
+use Rattle.common.specs.Values.{number_in}
+use Rattle.common.specs.Operators.{prefix_value}
+use Rattle.resolved.specs.Value.{Evaluated, Yields, Raises, then_with, literal_number, or_arith, operator_evaluated, decides, in_range, checked_index}
 use Rattle.resolved.specs.SourceState.{SourceState, cells, cell_at, value_of, values_of}
 use Rattle.resolved.specs.Exits.{index_can_raise, divisor_can_raise, is_division, raises, list_if}
 use Rattle.resolved.specs.Labelled.{Scope, variable_label, value_label, raise_label, any_of, Labelling, Join}
@@ -72,7 +74,7 @@ division-alike b d e m n no_zero same = go (is_zero e) refl
 
 operator-alike : (b : Bool) (operator : Operator) (v w v' w' : Value) →
     (is_division operator ≡ true → is_zero (number_in w) ≡ is_zero (number_in w')) → SameIf b v v' → SameIf b w w' →
-    Alike (SameIf b) (operator_value operator v w) (operator_value operator v' w')
+    Alike (SameIf b) (operator_evaluated operator v w) (operator_evaluated operator v' w')
 operator-alike b (Compute Add) v w v' w' no_zero left right = both_give _ _ (λ i. rw (left i, right i) refl)
 operator-alike b (Compute Subtract) v w v' w' no_zero left right = both_give _ _ (λ i. rw (left i, right i) refl)
 operator-alike b (Compute Multiply) v w v' w' no_zero left right = both_give _ _ (λ i. rw (left i, right i) refl)
@@ -161,10 +163,10 @@ expression-alike reader scope s t agree (Binary operator d e) reads =
     let both : reader.reads (rd ++ re) ≡ true = read-left reader (rd ++ re) (list_if test ve) reads in
     let covered : test ≡ true → reader.reads ve ≡ true = read-list_if reader test ve (read-right reader (rd ++ re) (list_if test ve) reads) in
     alike-then (SameIf (reader.reads vd)) (SameIf (reader.reads (vd ++ ve))) (value_of s d) (value_of t d)
-    (λ v. then_with (value_of s e) (λ w. operator_value operator v w)) (λ v. then_with (value_of t e) (λ w. operator_value operator v w))
+    (λ v. then_with (value_of s e) (λ w. operator_evaluated operator v w)) (λ v. then_with (value_of t e) (λ w. operator_evaluated operator v w))
     (expression-alike reader scope s t agree d (read-left reader rd re both)) (λ v v' f f' same.
     alike-then (SameIf (reader.reads ve)) (SameIf (reader.reads (vd ++ ve))) (value_of s e) (value_of t e)
-    (λ w. operator_value operator v w) (λ w. operator_value operator v' w)
+    (λ w. operator_evaluated operator v w) (λ w. operator_evaluated operator v' w)
     (expression-alike reader scope s t agree e (read-right reader rd re both)) (λ w w' g g' same_right.
     operator-alike (reader.reads (vd ++ ve)) operator v w v' w'
     (λ division. divisor-alike s t e (reader.reads ve) w w' (λ can. covered (rw (division, can) refl)) g g' same_right)

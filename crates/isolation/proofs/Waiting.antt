@@ -1,7 +1,7 @@
 -- A loop whose condition stays true and whose body changes nothing never comes to an end.
 use Rattle.std.proofs.Common.{◌≡◌, refl, ℕ, zero, suc, true}
-use Rattle.resolved.specs.declared.expression.Value.{Value}
-use Rattle.resolved.specs.declared.expression.Value.TheVariants.{Truth}
+use Rattle.common.specs.declared.value.Value.{Value}
+use Rattle.common.specs.declared.value.Value.TheVariants.{Bool as Truth}
 use Rattle.resolved.specs.Value.{Evaluated, Yields}
 use Rattle.resolved.specs.SourceState.{SourceState}
 use Rattle.resolved.specs.Meaning.{OutOfFuel, Outcome, Stopped, normally, fuel}

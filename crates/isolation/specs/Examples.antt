@@ -8,7 +8,7 @@ use Rattle.labels.specs.Label.{Label}
 use Rattle.labels.specs.Sent.{pairs_for}
 use Rattle.common.specs.declared.base_type.BaseType.TheVariants.{Int}
 use Rattle.resolved.specs.declared.expression.Variable.TheVariants.{Local}
-use Rattle.resolved.specs.declared.expression.Operator.TheVariants.{Compare}
+use Rattle.common.specs.declared.operator.Operator.TheVariants.{Compare}
 use Rattle.common.specs.declared.operator.Comparison.TheVariants.{Ordered}
 use Rattle.common.specs.declared.operator.Order.TheVariants.{GreaterThan}
 use Rattle.common.specs.declared.direction.Direction.TheVariants.{Input, Output}

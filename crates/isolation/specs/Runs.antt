@@ -3,12 +3,12 @@
 use Rattle.std.specs.Prelude.{◌≡◌, ℕ, ◌≤◌, List, [], ◌∷◌, Some, None, IsTrue, slice_get}
 use Rattle.labels.specs.Sent.{IsPrefix}
 use Rattle.common.specs.declared.base_type.BaseType.{BaseType}
-use Rattle.resolved.specs.declared.expression.Value.{Value}
+use Rattle.common.specs.declared.value.Value.{Value}
 use Rattle.resolved.specs.declared.statement.Exit.{Exit}
 use Rattle.resolved.specs.declared.statement.Exit.TheVariants.{Normal, Return, Break, Continue, Throw}
 use Rattle.resolved.specs.Tree.{Statement, Block}
 use Rattle.resolved.specs.Program.{Program, ProcedureEntry, ResultEntry, procedure_at}
-use Rattle.resolved.specs.Value.{base_of}
+use Rattle.common.specs.Values.{kind_of}
 use Rattle.resolved.specs.SourceState.{World, SourceState}
 use Rattle.resolved.specs.Meaning.{Outcome, Ended, Stopped, OutOfFuel, Deep, state_after, statement_meaning, block_meaning, calls_with, run_within, sent_by}
 use Rattle.resolved.specs.Exits.{has_exit, thrown_exits, declared_by, statement_exits, block_exits}
@@ -40,7 +40,7 @@ CallsEndAsDeclared program =
 
 -- a call that ended normally gave a value of this base type
 abbrev pub GivesValue : BaseType → Outcome → Type 0
-GivesValue base (Ended Normal (Some v) s) = base_of v ≡ base
+GivesValue base (Ended Normal (Some v) s) = kind_of v ≡ base
 GivesValue base (Ended Normal None s) = ⊥
 GivesValue base (Ended Return returned s) = Unit {0}
 GivesValue base (Ended Break returned s) = Unit {0}

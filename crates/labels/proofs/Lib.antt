@@ -13,6 +13,7 @@ pub mod Merge
 pub mod Order
 pub mod PieceBits
 pub mod Prefixes
+pub mod Seen
 pub mod Present
 pub mod Tests
 mod Readers

@@ -4,11 +4,13 @@ ghost use Rattle.labels.specs.Canonical.{IsCanonicalLabel, IsCanonicalPolicy, jo
 ghost use Rattle.labels.specs.Carried.{FlowsAreKept, FlowsStayByName, LabelsStayThemselves, NamesKeepActsFor};
 ghost use Rattle.labels.specs.Label.{Covers, FlowsTo, Label, MayRead, PolicyAllows, PolicyFlowsTo, ReaderPolicy, covers, flows, may_read, policy_allows, policy_flows};
 ghost use Rattle.lattices.specs.Lattice.{IsLattice};
+ghost use Rattle.labels.specs.Sent.{Sees, pairs_for};
 ghost use Rattle.labels.specs.Sets.{SameSet};
+ghost use Rattle.common.specs.declared.sent.Pair.{Pair};
 ghost use Rattle.principals.specs.ActsFor.{PrincipalHierarchy};
 ghost use Rattle.std.specs.Prelude.{All, Contains, IsTrue, List, [], ℕ, ◌&&◌, ◌++◌, ◌↔◌, ◌≡◌, ◌≢◌};
 
-/// Each test answers yes exactly where its relation holds.
+/// Each test answers yes exactly where its relation holds, and what a principal sees is what the test of reading lets through.
 pub fn tests_decide()
     ensures allows { (h : PrincipalHierarchy) (p : ℕ) (policy : ReaderPolicy) →
         IsTrue (policy_allows h p policy) ↔ PolicyAllows h p policy }
@@ -20,6 +22,8 @@ pub fn tests_decide()
         IsTrue (covers h to policy) ↔ Covers h to policy }
     ensures flow { (h : PrincipalHierarchy) (from to : Label) →
         IsTrue (flows h from to) ↔ FlowsTo h from to }
+    ensures sees { (h : PrincipalHierarchy) (label_of : ℕ → Label) (p : ℕ) (sent seen : List Pair) →
+        (pairs_for h label_of p sent ≡ seen) ↔ Sees h label_of p sent seen }
 {}
 
 /// Under each hierarchy flow is reflexive and transitive, the union is a least upper bound of two labels, and the empty label

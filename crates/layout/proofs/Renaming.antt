@@ -5,7 +5,7 @@ use Rattle.std.proofs.lemmas.List.{length-map}
 use Rattle.modules.proofs.Tabled.{step-is}
 use Rattle.modules.proofs.Alike.{act-alike, with_sent, with_memory}
 use Rattle.modules.specs.declared.instruction.Instruction.{Instruction}
-use Rattle.modules.specs.declared.value.Cell.{Cell}
+use Rattle.common.specs.declared.value.Value.{Value as Cell}
 use Rattle.modules.specs.declared.declaration.Slot.{Slot}
 use Rattle.modules.specs.Machine.{Frame, Caller, State, Machine, Running, Ended, Stuck, Deep, MachineCode, goes_on, goes_to, unwound, raised, new_frame, step, exec}
 use Rattle.modules.specs.Transitions.{handled, enters, act}

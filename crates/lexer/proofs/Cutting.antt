@@ -1,9 +1,10 @@
 -- Cuts of a text, one after another, and why there is one at most.
+use Rattle.lexer.specs.Patterns.{Word, Gap, LargeLiteral, OpenComment, Token, Between}
 use Rattle.std.proofs.Common.{◌≡◌, ℕ, ◌+◌, List, [], ◌∷◌, ◌++◌, length, refl, sym, ap, subst, ◌∙◌}
 use Rattle.std.specs.Str.{chars}
 use Rattle.lexer.specs.Terminal.{Terminal}
-use Rattle.lexer.specs.Lexeme.{Lexeme, Word, Gap, LargeLiteral, OpenComment}
-use Rattle.lexer.specs.Cut.{Cuts, Nothing, Token, Between, IsNextLexeme, IsRefusedFor, terminal_at, size}
+use Rattle.lexer.specs.Lexeme.{Lexeme}
+use Rattle.lexer.specs.Cut.{Cuts, Nothing, IsNextLexeme, IsRefusedFor, terminal_at, size}
 use Rattle.lexer.specs.Laws.{HasOneCut, IsNotCutAndRefused, TextsHaveOneRefusal}
 use Rattle.lexer.specs.TokenKind.{TokenKind, End}
 use Rattle.lexer.specs.declared.fault.LexRefusalKind.{LexRefusalKind}

@@ -1,4 +1,5 @@
 -- Keywords and signs: by their kinds in the code, and as fixed words.
+use Rattle.lexer.specs.Patterns.{Word}
 use mathlib.Core.Bool.{Bool-set}
 use Rattle.std.proofs.Common.{◌≡◌, ◌⊎◌, ℕ, ◌||◌, Bool, true, false, cond, List, [], ◌∷◌, ◌++◌, map, Option, Some, None, is_some, refl, sym, ap, subst, ◌∙◌, inl, inr}
 use Rattle.std.specs.Prelude.{IsTrue, bytes_eq, codes, unwrap_or}
@@ -8,7 +9,7 @@ use Rattle.std.proofs.lemmas.Bool.{cases_Bool, and_parts, cond-true, cond-false,
 use Rattle.std.proofs.lemmas.Slice.Eq.{bytes_eq-Decides}
 use Rattle.lexer.specs.KindOf.{kind_of, text_of}
 use Rattle.lexer.specs.KindRows.{code_of, keyword_rows, sign_rows, keyword_of, sign_of}
-use Rattle.lexer.specs.Lexeme.{IsLexeme, Word, FixedWord}
+use Rattle.lexer.specs.Lexeme.{IsLexeme, FixedWord}
 use Rattle.lexer.specs.TokenKind.{TokenKind, Fixed, Name, Integer, End, word_of}
 use Rattle.lexer.specs.Words.{keywords, signs, is_fixed}
 use Rattle.lexer.specs.declared.token.Kind.{Kind}

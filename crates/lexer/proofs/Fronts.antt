@@ -1,4 +1,5 @@
 -- What a lexeme is, by the class of its first character.
+use Rattle.lexer.specs.Patterns.{Word, Gap, LargeLiteral, OpenComment}
 use Rattle.std.proofs.Common.{◌≡◌, ℕ, ◌≤◌, ◌==◌, ◌&&◌, ◌||◌, Bool, true, false, not, cond, List, [], ◌∷◌, Option, Some, None, length, refl, sym, ap, subst, ◌∙◌, inl, inr, arith, unwrap_or, is_some, ◌++◌, codes}
 use Rattle.std.proofs.lemmas.Bool.{and_parts, both_ways, or_cases, eqb-true, le-leb, lt-leb, cond-true, cond-false}
 use Rattle.std.specs.Char.{is_ascii_digit, is_ascii_lowercase}
@@ -10,7 +11,7 @@ use Rattle.lexer.specs.KindRows.{keyword_of, sign_of, keyword_rows, sign_rows}
 use Rattle.lexer.specs.TokenKind.{Name, Integer}
 use Rattle.lexer.specs.Words.{is_white_space, is_name, is_fixed}
 use Rattle.unicode_ident.specs.Ident.{is_xid_continue}
-use Rattle.lexer.specs.Lexeme.{Lexeme, Word, Gap, LargeLiteral, OpenComment, IsLexeme, Blank, LineComment, BlockComment, Unended, FixedWord, Identifier, Literal, TooLarge, IsInLine, HasNoCommentEnd, IsNumeral}
+use Rattle.lexer.specs.Lexeme.{Lexeme, IsLexeme, Blank, LineComment, BlockComment, Unended, FixedWord, Identifier, Literal, TooLarge, IsInLine, HasNoCommentEnd, IsNumeral}
 use Rattle.lexer.proofs.Closed.{IsClosed, closed_by}
 use Rattle.lexer.specs.declared.token.Kind.{Kind}
 use Rattle.lexer.specs.declared.token.Kind.TheVariants as kinds

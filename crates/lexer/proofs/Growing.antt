@@ -1,10 +1,11 @@
 -- One more lexeme of a text that is cut so far.
+use Rattle.lexer.specs.Patterns.{Word, Gap, Token, Between}
 use Rattle.std.proofs.Common.{◌≡◌, ℕ, ◌+◌, ◌-◌, ◌<◌, ◌≤◌, true, List, [], ◌∷◌, ◌++◌, Option, Some, None, length, sym, ap, subst, ◌∙◌, arith, append-nil}
 use Rattle.std.proofs.lemmas.Str.{encodes-chars, chars-nil}
 use Rattle.std.specs.Str.{chars, IsUtf8, encode_utf8_all}
 use Rattle.lexer.specs.Terminal.{Terminal}
-use Rattle.lexer.specs.Lexeme.{Lexeme, Word, Gap}
-use Rattle.lexer.specs.Cut.{Cuts, Nothing, Token, Between, IsNextLexeme, IsCut, IsTextRefused, terminal_at, size}
+use Rattle.lexer.specs.Lexeme.{Lexeme}
+use Rattle.lexer.specs.Cut.{Cuts, Nothing, IsNextLexeme, IsCut, IsTextRefused, terminal_at, size}
 use Rattle.lexer.specs.Scan.{Reads, after_run, lexeme_of, IsStuck}
 use Rattle.lexer.specs.Words.{is_white_space}
 use Rattle.lexer.specs.KindOf.{kind_of}

@@ -1,4 +1,5 @@
 -- What follows of the tokens of a cut.
+use Rattle.lexer.specs.Patterns.{Word, Gap, Token, Between}
 use Rattle.std.proofs.Common.{◌≡◌, ◌≢◌, ℕ, ◌+◌, ◌-◌, ◌≤◌, true, List, [], ◌∷◌, ◌++◌, length, take, drop, refl, sym, ap, subst, ◌∙◌, arith, inl, inr, append_assoc, append-nil, length-append}
 use Rattle.std.proofs.lemmas.Bool.{and_parts, and_from}
 use Rattle.std.proofs.lemmas.List.{take-append-le, drop_at, take_all}
@@ -12,8 +13,8 @@ use Rattle.lexer.specs.Terminal.{Terminal, IsTerminated}
 use Rattle.lexer.specs.KindRows.{keyword_rows, sign_rows}
 use Rattle.lexer.specs.TokenKind.{TokenKind, End}
 use Rattle.lexer.specs.Words.{is_name, is_fixed}
-use Rattle.lexer.specs.Lexeme.{Lexeme, Word, Gap, IsLexeme, FixedWord, Identifier, Literal, IsNumeral}
-use Rattle.lexer.specs.Cut.{Cuts, Nothing, Token, Between, IsNextLexeme, IsCut, IsTextRefused, terminal_at, size}
+use Rattle.lexer.specs.Lexeme.{Lexeme, IsLexeme, FixedWord, Identifier, Literal, IsNumeral}
+use Rattle.lexer.specs.Cut.{Cuts, Nothing, IsNextLexeme, IsCut, IsTextRefused, terminal_at, size}
 use Rattle.lexer.specs.Listing.{IsInOrder, IsSliceOf, IsSpelled, SpellsToken, IsAtCharacter, IsRefusedAtCharacter}
 use Rattle.common.specs.declared.refusal.RefusalAt.{RefusalAt}
 use Rattle.lexer.specs.declared.fault.LexRefusalKind.{LexRefusalKind}

@@ -1,4 +1,5 @@
 -- The next lexeme of a text, by what the text begins with; there is at most one.
+use Rattle.lexer.specs.Patterns.{Word, Gap, OpenComment}
 use Rattle.std.proofs.Common.{◌≡◌, ℕ, suc, ◌≤◌, ◌==◌, true, not, List, [], ◌∷◌, ◌++◌, Option, Some, None, length, codes, refl, sym, ap, subst, ◌∙◌, inl, inr, arith, unwrap_or, is_some, append_assoc, append-nil}
 use Rattle.std.proofs.lemmas.Bool.{cases_Bool, cases_lt, and_from, leb-true, leb-false, cond-true, cond-false}
 use Rattle.std.specs.Char.{is_ascii_digit}
@@ -10,7 +11,7 @@ use Rattle.lexer.specs.Words.{is_white_space, is_identifier, may_begin}
 use Rattle.lexer.specs.KindOf.{kind_of}
 use Rattle.lexer.specs.KindRows.{keyword_of, sign_of}
 use Rattle.unicode_ident.specs.Ident.{is_xid_continue}
-use Rattle.lexer.specs.Lexeme.{Lexeme, Word, Gap, OpenComment, IsLexeme, Blank, LineComment, BlockComment, Unended, Identifier, Literal, TooLarge, IsInLine, HasNoCommentEnd, IsNumeral}
+use Rattle.lexer.specs.Lexeme.{Lexeme, IsLexeme, Blank, LineComment, BlockComment, Unended, Identifier, Literal, TooLarge, IsInLine, HasNoCommentEnd, IsNumeral}
 use Rattle.lexer.proofs.Closed.{IsClosed, open_before}
 use Rattle.lexer.specs.Cut.{IsNextLexeme, IsRefusedFor}
 use Rattle.lexer.specs.declared.fault.LexRefusalKind.TheVariants.{NoToken}

@@ -1,4 +1,5 @@
 -- What the scanner reads is the next lexeme.
+use Rattle.lexer.specs.Patterns.{Word, Gap, LargeLiteral, OpenComment}
 use Rattle.std.proofs.Common.{◌≡◌, ℕ, ◌<◌, ◌≤◌, ◌==◌, ◌&&◌, Bool, true, false, not, List, [], ◌∷◌, ◌++◌, Some, None, length, codes, refl, sym, ap, subst, ◌∙◌, inl, inr, arith, length-append}
 use Rattle.std.proofs.lemmas.Bool.{cases_Bool, cases_lt, and_from, and_parts, or_parts, not-true, eqb-true, eqb-false, leb-true, cond-true, cond-false, le-leb, lt-leb}
 use Rattle.std.specs.Char.{is_ascii_digit}
@@ -17,7 +18,7 @@ use Rattle.std.proofs.lemmas.Str.Parse.{IsDigitsTest, numerals_by_value, parse_d
 use Rattle.std.proofs.lemmas.List.{nil_from_length}
 use Rattle.lexer.specs.Words.{is_white_space, may_begin}
 use Rattle.unicode_ident.specs.Ident.{is_xid_continue}
-use Rattle.lexer.specs.Lexeme.{Lexeme, Word, Gap, LargeLiteral, OpenComment, HasNoCommentEnd}
+use Rattle.lexer.specs.Lexeme.{Lexeme, HasNoCommentEnd}
 use Rattle.lexer.proofs.Closed.{IsClosed}
 use Rattle.lexer.specs.Cut.{IsNextLexeme}
 use Rattle.lexer.specs.Scan.{after_run, after_close, IsTail, begins_sign}

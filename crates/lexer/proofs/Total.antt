@@ -1,4 +1,5 @@
 -- Each text is cut, or it is refused.
+use Rattle.lexer.specs.Patterns.{Word, Gap, LargeLiteral, OpenComment, Token, Between}
 use Rattle.std.proofs.Common.{◌≡◌, ◌⊎◌, ℕ, zero, suc, ◌+◌, ◌<◌, ◌≤◌, ◌==◌, true, false, not, List, [], ◌∷◌, ◌++◌, Option, Some, None, length, refl, sym, ap, subst, arith, inl, inr, length-append}
 use Rattle.std.proofs.lemmas.Bool.{cases_Bool, cases_eq, eqb-true, or_from, not_from_false}
 use Rattle.std.proofs.lemmas.Str.{encodes-chars}
@@ -7,8 +8,8 @@ use Rattle.std.specs.Str.{chars, IsUtf8}
 use Rattle.lexer.specs.Terminal.{Terminal}
 use Rattle.lexer.specs.Words.{is_white_space, may_begin}
 use Rattle.unicode_ident.specs.Ident.{is_xid_continue}
-use Rattle.lexer.specs.Lexeme.{Lexeme, Word, Gap, LargeLiteral, OpenComment}
-use Rattle.lexer.specs.Cut.{Cuts, Nothing, Token, Between, IsNextLexeme, IsCut, IsRefusedFor, terminal_at, size}
+use Rattle.lexer.specs.Lexeme.{Lexeme, Refused, IsLexeme, Blank, LineComment, BlockComment, Unended, FixedWord, Identifier, Literal, TooLarge}
+use Rattle.lexer.specs.Cut.{Cuts, Nothing, IsNextLexeme, IsCut, IsRefusedFor, terminal_at, size}
 use Rattle.lexer.specs.Laws.{IsCutOrRefused}
 use Rattle.lexer.specs.Scan.{after_close, after_run, IsNoDouble, IsNoTriple, IsStuck}
 use Rattle.lexer.specs.KindOf.{kind_of}
@@ -143,6 +144,17 @@ passes start text front left next c = record {
   stops = c.stops;
 }
 
+-- no characters are a lexeme that is refused for being none
+no_lexeme : (lexeme : Lexeme) (front : List ℕ) → IsLexeme lexeme front → lexeme ≡ Refused NoToken → ⊥
+no_lexeme _ _ (Blank c is) e = cc
+no_lexeme _ _ (LineComment cs is) e = cc
+no_lexeme _ _ (BlockComment cs is) e = cc
+no_lexeme _ _ (Unended cs is) e = cc
+no_lexeme _ _ (FixedWord cs is) e = cc
+no_lexeme _ _ (Identifier cs is) e = cc
+no_lexeme _ _ (Literal cs is small) e = cc
+no_lexeme _ _ (TooLarge cs is large) e = cc
+
 -- the cut from a lexeme on, given the cut of what follows it
 from_next : (start : ℕ) (text : List ℕ) (lexeme : Lexeme) (front left : List ℕ) → IsNextLexeme text lexeme front left
     → Cutting (start + size front) left → Cutting start text
@@ -150,6 +162,7 @@ from_next start text (Word kind) front left next c = goes_on start text kind fro
 from_next start text Gap front left next c = passes start text front left next c
 from_next start text LargeLiteral front left next c = stuck start text LiteralTooLarge (front, left, next)
 from_next start text OpenComment front left next c = stuck start text UnclosedComment (front, left, next)
+from_next start text (Refused NoToken) front left next c = absurd (no_lexeme (Refused NoToken) front next.is refl)
 
 cutting : (fuel start : ℕ) (text : List ℕ) → length text ≤ fuel → Cutting start text
 cutting fuel start [] short = record { words = []; end = start; rest = []; cuts = Nothing start []; stops = inl refl }

@@ -1,12 +1,13 @@
 -- How a text is cut into tokens by longest match, and what the first refusal in it is.
 -- Source: the rule of the longest match, as lexical analysis states it; the three refusals are our own.
-use Rattle.std.specs.Prelude.{◌≡◌, ◌≢◌, ℕ, ◌+◌, ◌≤◌, List, [], ◌∷◌, ◌++◌, length}
+use Rattle.std.specs.Prelude.{◌≡◌, ◌≢◌, ℕ, ◌+◌, ◌≤◌, List, [], ◌∷◌, ◌++◌, length, Option, option_map}
+use Rattle.std.specs.List.{cons_option}
 use Rattle.std.specs.Str.{chars, encode_utf8_all}
 use Rattle.lexer.specs.Terminal.{Terminal}
-use Rattle.lexer.specs.Lexeme.{Lexeme, Word, Gap, LargeLiteral, OpenComment, IsLexeme}
+use Rattle.lexer.specs.Lexeme.{Lexeme, Piece, Refused, IsLexeme}
 use Rattle.lexer.specs.TokenKind.{TokenKind, End}
 use Rattle.lexer.specs.declared.fault.LexRefusalKind.{LexRefusalKind}
-use Rattle.lexer.specs.declared.fault.LexRefusalKind.TheVariants.{NoToken, LiteralTooLarge, UnclosedComment}
+use Rattle.lexer.specs.declared.fault.LexRefusalKind.TheVariants.{NoToken}
 use Rattle.common.specs.declared.refusal.RefusalAt.{RefusalAt}
 
 -- the text begins with the lexeme `front`, and with no longer one; `rest` follows
@@ -28,13 +29,10 @@ terminal_at start kind cs = record { kind = kind; text = encode_utf8_all cs; sta
 pub data Cuts : ℕ → List ℕ → List Terminal → ℕ → List ℕ → Type 0 where
   -- nothing is cut off
   Nothing : (start : ℕ) (text : List ℕ) → Cuts start text [] start text
-  -- the next lexeme is a token, and the cut goes on after it
-  Token : (start : ℕ) (text : List ℕ) (kind : TokenKind) (front left : List ℕ) (tokens : List Terminal) (end : ℕ)
-      (rest : List ℕ) → IsNextLexeme text (Word kind) front left → Cuts (start + size front) left tokens end rest
-      → Cuts start text (terminal_at start kind front ∷ tokens) end rest
-  -- the next lexeme gives no token, and the cut goes on after it
-  Between : (start : ℕ) (text front left : List ℕ) (tokens : List Terminal) (end : ℕ) (rest : List ℕ)
-      → IsNextLexeme text Gap front left → Cuts (start + size front) left tokens end rest → Cuts start text tokens end rest
+  -- the next lexeme, which gives a token or none, and the cut goes on after it
+  Next : (start : ℕ) (text : List ℕ) (kind : Option TokenKind) (front left : List ℕ) (tokens : List Terminal) (end : ℕ)
+      (rest : List ℕ) → IsNextLexeme text (Piece kind) front left → Cuts (start + size front) left tokens end rest
+      → Cuts start text (cons_option (option_map (λ kind. terminal_at start kind front) kind) tokens) end rest
 
 -- the tokens of the whole text, with the end marker after them
 pub record IsCut (text : List ℕ) (tokens : List Terminal) : Type 0 where
@@ -45,8 +43,7 @@ pub record IsCut (text : List ℕ) (tokens : List Terminal) : Type 0 where
 -- the text goes on, but with no lexeme, or it goes on with one that is refused
 abbrev pub IsRefusedFor : List ℕ → LexRefusalKind → Type 0
 IsRefusedFor text NoToken = (text ≢ []) × ((lexeme : Lexeme) (front rest : List ℕ) → IsLexeme lexeme front → text ≢ front ++ rest)
-IsRefusedFor text LiteralTooLarge = (front : List ℕ) × (rest : List ℕ) × IsNextLexeme text LargeLiteral front rest
-IsRefusedFor text UnclosedComment = (front : List ℕ) × (rest : List ℕ) × IsNextLexeme text OpenComment front rest
+IsRefusedFor text kind = (front : List ℕ) × (rest : List ℕ) × IsNextLexeme text (Refused kind) front rest
 
 -- what stands before the refusal is cut into tokens, and the refusal is what comes then
 pub record IsTextRefused (text : List ℕ) (refusal : RefusalAt LexRefusalKind) : Type 0 where

@@ -6,6 +6,7 @@ pub mod Lexeme
 pub mod Listing
 pub mod Position
 pub mod NextPlace
+pub mod Patterns
 pub mod Scan
 pub mod Terminal
 pub mod TokenKind

@@ -1,5 +1,6 @@
 -- What the private functions of the scanner read, as functions on characters. No public contract cites this file.
 -- Source: our own.
+use Rattle.lexer.specs.Patterns.{Word, Gap}
 use Rattle.std.specs.Prelude.{◌≡◌, ℕ, ◌==◌, ◌&&◌, ◌||◌, Bool, not, cond, List, [], ◌∷◌, ◌++◌, Option, None, Some, get_or, false, length, nat_eq, nat_lt}
 use Rattle.std.specs.List.{list_any}
 use Rattle.std.specs.Char.{is_ascii_digit}
@@ -7,7 +8,7 @@ use Rattle.lexer.specs.Words.{is_white_space, may_begin}
 use Rattle.unicode_ident.specs.Ident.{is_xid_continue}
 use Rattle.lexer.specs.KindOf.{kind_of}
 use Rattle.lexer.specs.KindRows.{sign_of, sign_rows}
-use Rattle.lexer.specs.Lexeme.{Lexeme, Word, Gap}
+use Rattle.lexer.specs.Lexeme.{Lexeme}
 use Rattle.lexer.specs.Cut.{IsNextLexeme, IsRefusedFor}
 use Rattle.common.specs.declared.refusal.RefusalAt.{RefusalAt}
 use Rattle.lexer.specs.declared.fault.LexRefusalKind.{LexRefusalKind}

@@ -9,14 +9,10 @@ use Rattle.unicode_ident.specs.Ident.{is_xid_start, is_xid_continue}
 abbrev pub is_white_space : ℕ → Bool
 is_white_space c = c == 32 || c == 9 || c == 13 || c == 10
 
--- whether a name may begin with the character
-abbrev pub may_begin : ℕ → Bool
-may_begin c = is_xid_start c || c == 95
-
--- a first character and any number of further ones
+-- a first character, which may be `_`, and any number of further ones
 abbrev pub is_identifier : List ℕ → Bool
 is_identifier [] = false
-is_identifier (c ∷ cs) = may_begin c && list_all is_xid_continue cs
+is_identifier (c ∷ cs) = (is_xid_start c || c == 95) && list_all is_xid_continue cs
 
 abbrev pub keywords : List (List ℕ)
 keywords =
@@ -40,3 +36,9 @@ is_name cs = is_identifier cs && not (list_any (bytes_eq cs) keywords)
 -- the same of a text by its bytes
 abbrev pub is_name_text : List ℕ → Bool
 is_name_text text = is_name (chars text)
+
+-- ---- parts of the rules, by which contracts and proofs speak of them
+
+-- whether a name may begin with the character
+abbrev pub may_begin : ℕ → Bool
+may_begin c = is_xid_start c || c == 95

@@ -7,7 +7,7 @@ use Rattle.modules.specs.Targets.{renamed_instruction}
 use Rattle.modules.specs.declared.instruction.Instruction.{Instruction}
 use Rattle.modules.specs.declared.instruction.Instruction.TheVariants.{Jump, JumpIfFalse}
 use Rattle.modules.specs.declared.declaration.Slot.{Slot}
-use Rattle.modules.specs.declared.value.Cell.{Cell}
+use Rattle.common.specs.declared.value.Value.{Value as Cell}
 
 same_targets : (i : Instruction) → renamed_instruction (λ target. target) i ≡ i
 same_targets (Jump target) = refl

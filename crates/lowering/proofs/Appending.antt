@@ -4,7 +4,7 @@ use Rattle.std.proofs.Common.{◌≡◌, ℕ, ◌+◌, List, [], ◌∷◌, ◌+
 use Rattle.modules.specs.declared.instruction.Instruction.{Instruction}
 use Rattle.resolved.specs.declared.expression.Variable.{Variable}
 use Rattle.common.specs.declared.operator.Connective.{Connective}
-use Rattle.resolved.specs.declared.expression.Operator.{Operator}
+use Rattle.common.specs.declared.operator.Operator.{Operator}
 use Rattle.resolved.specs.Tree.{Expression, Binary, Short}
 use Rattle.lowering.specs.Expressions.{store_element_of, operator_instruction, value_size, value_code, rest_of_short, arguments_code, arguments_size, branch_code, branch_size, deciding}
 use Rattle.std.specs.Prelude.{Bool, if◌then◌else◌}

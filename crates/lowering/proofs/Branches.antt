@@ -4,22 +4,24 @@ use Rattle.std.proofs.Common.{◌≡◌, ℕ, ◌+◌, Bool, true, false, not, L
 use Rattle.std.specs.Prelude.{Option, if◌then◌else◌}
 use Rattle.common.proofs.Operators.{comparison_turned, sameness_turned}
 use Rattle.std.proofs.lemmas.Bool.{and_parts}
-use Rattle.resolved.specs.declared.expression.Value.{Value}
-use Rattle.resolved.specs.declared.expression.Value.TheVariants.{Number, Truth}
+use Rattle.common.specs.declared.value.Value.{Value}
+use Rattle.common.specs.declared.value.Value.TheVariants.{Int as Number, Bool as Truth}
 use Rattle.common.specs.declared.base_type.BaseType.TheVariants as base
 use Rattle.common.specs.declared.operator.Prefix.TheVariants as prefix
-use Rattle.resolved.specs.declared.expression.Operator.{Operator}
-use Rattle.resolved.specs.declared.expression.Operator.TheVariants as operator
+use Rattle.common.specs.declared.operator.Operator.{Operator}
+use Rattle.common.specs.declared.operator.Operator.TheVariants as operator
 use Rattle.common.specs.declared.operator.Connective.{Connective}
 use Rattle.common.specs.declared.operator.Connective.TheVariants.{And, Or}
 use Rattle.resolved.specs.Tree.{Expression, Integer, Logical, Read, Element, Unary, Binary, Short}
 use Rattle.resolved.specs.SourceState as source
 use Rattle.resolved.specs.SourceState.{value_of}
-use Rattle.resolved.specs.Value.{Evaluated, Yields, Raises, then_with, prefix_value, operator_value, decides, truth_in, number_in}
+use Rattle.common.specs.Values.{truth_in, number_in}
+use Rattle.common.specs.Operators.{prefix_value}
+use Rattle.resolved.specs.Value.{Evaluated, Yields, Raises, then_with, operator_evaluated, decides}
 use Rattle.resolved.specs.WellFormed.{has_base, result_base}
 use Rattle.resolved.specs.Kinds.{StateFits, GivesBase}
 use Rattle.resolved.proofs.Sound.Values.{value_fits}
-use Rattle.modules.specs.declared.value.Cell.TheVariants as cell
+use Rattle.common.specs.declared.value.Value.TheVariants as cell
 use Rattle.modules.specs.declared.instruction.Instruction.{Instruction}
 use Rattle.modules.specs.declared.instruction.Instruction.TheVariants.{JumpIfFalse}
 use Rattle.modules.specs.Machine.{Machine}
@@ -52,14 +54,14 @@ negated_truth : (a b : Bool) → a ≡ b → ◌≡◌ {A = Evaluated Value} (Yi
 negated_truth a b e = ap (λ (t : Bool). Yields (Truth t)) e
 
 negated-operator : (op : Operator) (v w : Value) → result_base op ≡ base.Boolean
-    → operator_value (negated_operator op) v w ≡ then_with (operator_value op v w) (λ x. Yields (prefix_value prefix.Not x))
+    → operator_evaluated (negated_operator op) v w ≡ then_with (operator_evaluated op v w) (λ x. Yields (prefix_value prefix.Not x))
 negated-operator (operator.Compare comparison) v w e = negated_truth _ _ (comparison_turned comparison (number_in v) (number_in w))
 negated-operator (operator.Match sameness) v w e = negated_truth _ _ (sameness_turned sameness (same_truth (truth_in v) (truth_in w)))
 negated-operator (operator.Compute computed) v w e = cc
 
 negated_pair : (op : Operator) (first second : Evaluated Value) → result_base op ≡ base.Boolean
-    → then_with first (λ v. then_with second (λ w. operator_value (negated_operator op) v w))
-    ≡ then_with (then_with first (λ v. then_with second (λ w. operator_value op v w))) (λ x. Yields (prefix_value prefix.Not x))
+    → then_with first (λ v. then_with second (λ w. operator_evaluated (negated_operator op) v w))
+    ≡ then_with (then_with first (λ v. then_with second (λ w. operator_evaluated op v w))) (λ x. Yields (prefix_value prefix.Not x))
 negated_pair op (Yields v) (Yields w) e = negated-operator op v w e
 negated_pair op (Yields v) (Raises exception) e = refl
 negated_pair op (Raises exception) second e = refl

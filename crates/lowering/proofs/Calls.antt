@@ -4,11 +4,11 @@ use Rattle.std.specs.Prelude.{Option, Some, None, is_none}
 use Rattle.std.proofs.lemmas.List.{append-nil}
 use Rattle.std.proofs.lemmas.Bool.Decides.{nat_tests}
 use Rattle.std.proofs.lemmas.Bool.{false≢true}
-use Rattle.resolved.specs.declared.expression.Value.{Value}
+use Rattle.common.specs.declared.value.Value.{Value}
 use Rattle.resolved.specs.declared.statement.Exit.TheVariants.{Normal, Return, Break, Continue, Throw}
 use Rattle.resolved.specs.Program.{Program, ProcedureEntry, ResultEntry, procedure_at}
 use Rattle.resolved.specs.SourceState as source
-use Rattle.resolved.specs.Value.{base_of}
+use Rattle.common.specs.Values.{kind_of}
 use Rattle.resolved.specs.Exits.{thrown_exits, declared_by}
 use Rattle.resolved.specs.Labelled.{exit_faults}
 use Rattle.resolved.specs.Meaning.{Outcome, Ended, Stopped, Deep, OutOfFuel, leaving, entering, calls_with, block_meaning}
@@ -22,7 +22,7 @@ use Rattle.isolation.specs.Runs.{ExitsAmong, GivesValue}
 use Rattle.isolation.proofs.Among.{calls-among}
 use Rattle.isolation.proofs.Declared.{ends-as-declared}
 use Rattle.isolation.proofs.Valued.{calls-give}
-use Rattle.modules.specs.declared.value.Cell.{Cell}
+use Rattle.common.specs.declared.value.Value.{Value as Cell}
 use Rattle.modules.specs.declared.instruction.Instruction.TheVariants as instruction
 use Rattle.modules.specs.Machine as machine
 use Rattle.modules.specs.Transitions as transitions
@@ -139,7 +139,7 @@ module _ (program : Program) (formed : well_formed program ≡ true) (none : exi
     body-called q callee found d inner result (Ended Normal (Some v) t) is ended fit among gives run = absurd (false≢true fit.returned)
     body-called q callee found d inner None (Ended Return None t) is ended fit among gives run = run
     body-called q callee found d inner None (Ended Return (Some v) t) is ended fit among gives run =
-        absurd (false≢true (sym (ap (λ (r : Option ResultEntry). has_result r (same_base (base_of v))) is) ∙ fit.returned))
+        absurd (false≢true (sym (ap (λ (r : Option ResultEntry). has_result r (same_base (kind_of v))) is) ∙ fit.returned))
     body-called q callee found d inner (Some value) (Ended Return None t) is ended fit among gives run = absurd (gives value refl)
     body-called q callee found d inner (Some value) (Ended Return (Some v) t) is ended fit among gives run = (gives value refl, run)
     body-called q callee found d inner result (Ended Break returned t) is ended fit among gives run = absurd (false≢true (sym (thrown-break (declared_by callee.throws)) ∙ among))

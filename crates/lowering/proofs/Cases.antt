@@ -1,7 +1,7 @@
 -- Worked cases of the code of programs, computed.
 use Rattle.std.proofs.Common.{◌≡◌, refl, List, [], ◌∷◌, None}
 use Rattle.resolved.specs.declared.expression.Variable.TheVariants.{Local}
-use Rattle.resolved.specs.declared.expression.Operator.TheVariants as operator
+use Rattle.common.specs.declared.operator.Operator.TheVariants as operator
 use Rattle.common.specs.declared.operator.Arithmetic.TheVariants.{Divide}
 use Rattle.resolved.specs.Tree as tree
 use Rattle.resolved.specs.Program.{Program}

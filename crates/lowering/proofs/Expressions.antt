@@ -3,26 +3,28 @@ use Rattle.common.specs.Functions.{same_truth}
 use Rattle.std.proofs.Common.{◌≡◌, ℕ, ◌+◌, ◌≤◌, Bool, true, false, not, ℤ, List, [], ◌∷◌, ◌++◌, length, refl, sym, ap, ◌∙◌, arith}
 use Rattle.std.specs.Prelude.{Option, Some, None, if◌then◌else◌, ◌&&◌, ◌+ℤ◌, ◌-ℤ◌, ◌*ℤ◌, int_div, int_rem, neg_ℤ}
 use Rattle.std.proofs.lemmas.Bool.{and_parts}
-use Rattle.resolved.specs.declared.expression.Value.{Value}
-use Rattle.resolved.specs.declared.expression.Value.TheVariants.{Number, Truth}
+use Rattle.common.specs.declared.value.Value.{Value}
+use Rattle.common.specs.declared.value.Value.TheVariants.{Int as Number, Bool as Truth}
 use Rattle.common.specs.declared.base_type.BaseType.{BaseType}
 use Rattle.common.specs.declared.base_type.BaseType.TheVariants as base
 use Rattle.common.specs.declared.operator.Prefix.{Prefix}
 use Rattle.common.specs.declared.operator.Prefix.TheVariants as prefix
-use Rattle.resolved.specs.declared.expression.Operator.{Operator}
-use Rattle.resolved.specs.declared.expression.Operator.TheVariants as operator
+use Rattle.common.specs.declared.operator.Operator.{Operator}
+use Rattle.common.specs.declared.operator.Operator.TheVariants as operator
 use Rattle.common.specs.declared.operator.Arithmetic.TheVariants as arithmetic
 use Rattle.common.specs.declared.operator.Connective.{Connective}
 use Rattle.common.specs.declared.operator.Connective.TheVariants.{And, Or}
 use Rattle.resolved.specs.Tree.{Expression, Integer, Logical, Read, Element, Unary, Binary, Short}
 use Rattle.resolved.specs.SourceState as source
 use Rattle.resolved.specs.SourceState.{value_of}
-use Rattle.resolved.specs.Value.{Evaluated, Yields, literal_number, base_of, prefix_value, operator_value, or_arith, decides}
+use Rattle.common.specs.Values.{kind_of}
+use Rattle.common.specs.Operators.{prefix_value}
+use Rattle.resolved.specs.Value.{Evaluated, Yields, literal_number, operator_evaluated, or_arith, decides}
 use Rattle.resolved.specs.WellFormed.{variable_type, has_base, same_base, array_by, prefix_base, operand_base, result_base}
 use Rattle.resolved.specs.Kinds.{StateFits}
 use Rattle.resolved.proofs.Sound.Values.{value_fits}
-use Rattle.modules.specs.declared.value.Cell.{Cell}
-use Rattle.modules.specs.declared.value.Cell.TheVariants as cell
+use Rattle.common.specs.declared.value.Value.{Value as Cell}
+use Rattle.common.specs.declared.value.Value.TheVariants as cell
 use Rattle.modules.specs.declared.instruction.Instruction.{Instruction}
 use Rattle.modules.specs.declared.instruction.Instruction.TheVariants as instruction
 use Rattle.modules.specs.Machine.{Machine, goes_on}
@@ -72,7 +74,7 @@ module _ (g : Setting) (h : ℕ → Option ℕ) (s : source.SourceState) where
 
   numbers-run : (op : Operator) (a b : ℤ) (at : ℕ) (operands : List Cell) (more : List Instruction) → operand_base op ≡ base.Int
       → Stands g.code (operator_instruction op ∷ more) at → ((exception : ℕ) → g.p.find g.number at exception ≡ h exception)
-      → ValueRuns g h operands (position g at (cell.Int b ∷ cell.Int a ∷ operands) s) (at + 1) s (operator_value op (Number a) (Number b))
+      → ValueRuns g h operands (position g at (cell.Int b ∷ cell.Int a ∷ operands) s) (at + 1) s (operator_evaluated op (Number a) (Number b))
   numbers-run (operator.Compute arithmetic.Add) a b at operands more ints stands finds = gives-runs _ at _ operands (Number (wrapped (a +ℤ b))) more stands refl
   numbers-run (operator.Compute arithmetic.Subtract) a b at operands more ints stands finds = gives-runs _ at _ operands (Number (wrapped (a -ℤ b))) more stands refl
   numbers-run (operator.Compute arithmetic.Multiply) a b at operands more ints stands finds = gives-runs _ at _ operands (Number (wrapped (a *ℤ b))) more stands refl
@@ -88,22 +90,22 @@ module _ (g : Setting) (h : ℕ → Option ℕ) (s : source.SourceState) where
 
   truths-run : (op : Operator) (a b : Bool) (at : ℕ) (operands : List Cell) (more : List Instruction) → operand_base op ≡ base.Boolean
       → Stands g.code (operator_instruction op ∷ more) at
-      → ValueRuns g h operands (position g at (cell.Bool b ∷ cell.Bool a ∷ operands) s) (at + 1) s (operator_value op (Truth a) (Truth b))
+      → ValueRuns g h operands (position g at (cell.Bool b ∷ cell.Bool a ∷ operands) s) (at + 1) s (operator_evaluated op (Truth a) (Truth b))
   truths-run (operator.Match sameness) a b at operands more truths stands =
       gives-runs _ at _ operands (Truth (matched sameness (same_truth a b))) more stands refl
   truths-run _ a b at operands more truths stands = absurd (let no : base.Int ≡ base.Boolean = truths in cc)
 
   operator-runs : (op : Operator) (v w : Value) (at : ℕ) (operands : List Cell) (more : List Instruction)
-      → base_of v ≡ operand_base op → base_of w ≡ operand_base op
+      → kind_of v ≡ operand_base op → kind_of w ≡ operand_base op
       → Stands g.code (operator_instruction op ∷ more) at → ((exception : ℕ) → g.p.find g.number at exception ≡ h exception)
-      → ValueRuns g h operands (position g at (cell_of w ∷ cell_of v ∷ operands) s) (at + 1) s (operator_value op v w)
+      → ValueRuns g h operands (position g at (cell_of w ∷ cell_of v ∷ operands) s) (at + 1) s (operator_evaluated op v w)
   operator-runs op (Number a) (Number b) at operands more left right stands finds = numbers-run op a b at operands more (sym left) stands finds
   operator-runs op (Truth a) (Truth b) at operands more left right stands finds = truths-run op a b at operands more (sym left) stands
   operator-runs op (Number a) (Truth b) at operands more left right stands finds = absurd (let no : base.Int ≡ base.Boolean = left ∙ sym right in cc)
   operator-runs op (Truth a) (Number b) at operands more left right stands finds = absurd (let no : base.Int ≡ base.Boolean = right ∙ sym left in cc)
 
   prefix-runs : (sign : Prefix) (v : Value) (at : ℕ) (operands : List Cell) (more : List Instruction)
-      → base_of v ≡ prefix_base sign → Stands g.code (prefix_instruction sign ∷ more) at
+      → kind_of v ≡ prefix_base sign → Stands g.code (prefix_instruction sign ∷ more) at
       → Leads g.p (position g at (cell_of v ∷ operands) s) (position g (at + 1) (cell_of (prefix_value sign v) ∷ operands) s)
   prefix-runs prefix.Negate (Number a) at operands more fits stands = gives-runs _ at _ operands (Number (wrapped (neg_ℤ a))) more stands refl
   prefix-runs prefix.Not (Truth b) at operands more fits stands = gives-runs _ at _ operands (Truth (not b)) more stands refl
@@ -236,7 +238,7 @@ module _ (g : Setting) (h : ℕ → Option ℕ) (s : source.SourceState) (fit : 
       (λ q. value-sized e q) second
       (λ q low high here. value-runs e base.Boolean q operands outer.1 here (finds-part g at (n + (1 + (m + 2))) h q m (omega (arith, low)) (omega (arith, high)) finds))))
     where
-      decided : (connective : Connective) (v : Value) (mid m : ℕ) (right : ℕ → List Instruction) (operands : List Cell) (o : Evaluated Value) → base_of v ≡ base.Boolean
+      decided : (connective : Connective) (v : Value) (mid m : ℕ) (right : ℕ → List Instruction) (operands : List Cell) (o : Evaluated Value) → kind_of v ≡ base.Boolean
           → ((q : ℕ) → length (right q) ≡ m) → Stands g.code (rest_of_short connective mid m right) mid
           → ((q : ℕ) → mid ≤ q → q + m ≤ mid + (1 + (m + 2)) → Stands g.code (right q) q → ValueRuns g h operands (position g q operands s) (q + m) s o)
           → ValueRuns g h operands (position g mid (cell_of v ∷ operands) s) (mid + (1 + (m + 2))) s (if decides connective v then Yields v else o)

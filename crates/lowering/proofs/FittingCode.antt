@@ -12,8 +12,8 @@ use Rattle.resolved.specs.declared.expression.Variable.{Variable}
 use Rattle.resolved.specs.declared.expression.Variable.TheVariants.{Global, Local}
 use Rattle.common.specs.declared.operator.Prefix.{Prefix}
 use Rattle.common.specs.declared.operator.Prefix.TheVariants as prefix
-use Rattle.resolved.specs.declared.expression.Operator.{Operator}
-use Rattle.resolved.specs.declared.expression.Operator.TheVariants as operator
+use Rattle.common.specs.declared.operator.Operator.{Operator}
+use Rattle.common.specs.declared.operator.Operator.TheVariants as operator
 use Rattle.common.specs.declared.operator.BitOperator.TheVariants as bits
 use Rattle.common.specs.declared.operator.Arithmetic.TheVariants as arithmetic
 use Rattle.common.specs.declared.operator.Comparison.TheVariants as comparison

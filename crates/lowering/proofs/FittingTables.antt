@@ -10,8 +10,8 @@ use Rattle.std.proofs.lemmas.List.Sums.{sum_by-cons}
 use Rattle.std.proofs.Math.Facts.{Fits-of_z, Fits-lt-pow}
 use Rattle.std.proofs.Math.Bool.{or-true}
 use Rattle.principals.specs.ActsFor.{PrincipalHierarchy}
-use Rattle.resolved.specs.declared.expression.Value.{Value}
-use Rattle.resolved.specs.declared.expression.Value.TheVariants.{Number, Truth}
+use Rattle.common.specs.declared.value.Value.{Value}
+use Rattle.common.specs.declared.value.Value.TheVariants.{Int as Number, Bool as Truth}
 use Rattle.resolved.specs.Program.{GlobalEntry, SlotEntry}
 use Rattle.resolved.specs.WellFormed.{size_fits, cell_count, label_fits, first_fits, written_fits, parameter_fits}
 use Rattle.common.specs.declared.base_type.BaseType.{BaseType}

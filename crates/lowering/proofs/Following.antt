@@ -8,8 +8,8 @@ use Rattle.modules.proofs.Tabled.{step-is}
 use Rattle.modules.specs.declared.declaration.Handler.{Handler}
 use Rattle.modules.specs.declared.instruction.Instruction.{Instruction}
 use Rattle.modules.specs.declared.instruction.Instruction.TheVariants.{Jump, JumpIfFalse}
-use Rattle.modules.specs.declared.value.Cell.{Cell}
-use Rattle.modules.specs.declared.value.Cell.TheVariants as cell
+use Rattle.common.specs.declared.value.Value.{Value as Cell}
+use Rattle.common.specs.declared.value.Value.TheVariants as cell
 use Rattle.modules.specs.Contents.{ProcedureContents, ModuleContents}
 use Rattle.modules.specs.Machine.{State, Machine, Running, Ended, Stuck, MachineCode, Header, goes_to, step, exec, handler_for, header_of, first_slots, first_state}
 use Rattle.modules.specs.Transitions.{act, branches}

@@ -7,22 +7,23 @@ use Rattle.std.proofs.Math.Path.{fun_ext}
 use Rattle.std.proofs.lemmas.List.{append-nil, reverse-append}
 use Rattle.std.proofs.lemmas.Option.{slice_get-map}
 use Rattle.std.proofs.lemmas.Bool.{and_parts}
-use Rattle.resolved.specs.declared.expression.Value.{Value}
-use Rattle.resolved.specs.declared.expression.Value.TheVariants.{Number, Truth}
+use Rattle.common.specs.declared.value.Value.{Value}
+use Rattle.common.specs.declared.value.Value.TheVariants.{Int as Number, Bool as Truth}
 use Rattle.common.specs.declared.base_type.BaseType.{BaseType}
 use Rattle.common.specs.declared.base_type.BaseType.TheVariants as base
 use Rattle.resolved.specs.Program.{Program, ProcedureEntry, SlotEntry, GlobalEntry, ChannelEntry}
 use Rattle.resolved.specs.SourceState as source
-use Rattle.resolved.specs.Value.{base_of, zero_value}
+use Rattle.common.specs.Values.{kind_of, zero_of}
 use Rattle.resolved.specs.Meaning.{cells_of as first_cells_of, first_cells_of_slots, frame_of}
 use Rattle.resolved.specs.WellFormed.{slot_type, global_type, first_fits, size_fits, label_fits, same_base, well_formed, parameters_of}
 use Rattle.resolved.specs.Kinds.{ArgumentsFit}
 use Rattle.resolved.proofs.WellFormedParts.{program_parts, passes_at}
 use Rattle.resolved.proofs.Sound.Values.{same_base_is}
-use Rattle.modules.specs.declared.value.Cell.{Cell}
+use Rattle.common.specs.declared.value.Value.{Value as Cell}
 use Rattle.modules.specs.declared.declaration.Slot.{Slot}
 use Rattle.modules.specs.declared.declaration.Slot.TheVariants as slot
-use Rattle.modules.specs.Values.{has_kind, zero_of}
+use Rattle.common.specs.Values.{zero_of}
+use Rattle.modules.specs.Values.{has_kind}
 use Rattle.modules.specs.Contents.{ProcedureContents}
 use Rattle.modules.specs.Machine.{Caller, Header, header_of, handler_for, first_cells, first_slots}
 use Rattle.modules.specs.Transitions.{popped}
@@ -41,13 +42,13 @@ pub slot_same : (o : Option SlotEntry) → option_map slot_contents o ≡ slot_o
 slot_same None = refl
 slot_same (Some entry) = refl
 
-scalar_same : (v : Value) (b : BaseType) → base_of v ≡ b → slot_of (scalar_global v) ≡ slot.Scalar b
+scalar_same : (v : Value) (b : BaseType) → kind_of v ≡ b → slot_of (scalar_global v) ≡ slot.Scalar b
 scalar_same (Number z) base.Int e = refl
 scalar_same (Truth t) base.Boolean e = refl
 scalar_same (Number z) base.Boolean e = cc
 scalar_same (Truth t) base.Int e = cc
 
-global_same : (entry : GlobalEntry) (size : Option ℕ) → entry.size ≡ size → base_of entry.first ≡ entry.base
+global_same : (entry : GlobalEntry) (size : Option ℕ) → entry.size ≡ size → kind_of entry.first ≡ entry.base
     → slot_of (global_contents entry) ≡ declared_slot entry.base entry.size
 global_same entry None e h = rw e (scalar_same entry.first entry.base h)
 global_same entry (Some count) e h = rw e refl
@@ -60,7 +61,7 @@ global_there program formed k (Some entry) e =
     (and_parts (list_all _ program.globals) _ (program_parts program formed).globals_are).0 in
     let fit : first_fits entry ≡ true =
     (and_parts (size_fits entry.size && label_fits program.hierarchy entry.label) _ (passes_at _ program.globals k entry all_fit e)).1 in
-    ap (λ (s : Slot). Some s) (global_same entry entry.size refl (same_base_is (base_of entry.first) entry.base (and_parts (same_base (base_of entry.first) entry.base) _ fit).0))
+    ap (λ (s : Slot). Some s) (global_same entry entry.size refl (same_base_is (kind_of entry.first) entry.base (and_parts (same_base (kind_of entry.first) entry.base) _ fit).0))
 
 pub direction_same : (o : Option ChannelEntry) → option_map (λ entry. (channel_contents entry).direction) o ≡ direction_in o
 direction_same None = refl
@@ -155,7 +156,7 @@ popped-all entry vs h =
 
 -- ---- new frames
 
-zero_cell : (b : BaseType) → cell_of (zero_value b) ≡ zero_of b
+zero_cell : (b : BaseType) → cell_of (zero_of b) ≡ zero_of b
 zero_cell base.Int = refl
 zero_cell base.Boolean = refl
 
@@ -163,9 +164,9 @@ pub cells_replicated : (n : ℕ) (v : Value) → cells_of (replicate n v) ≡ re
 cells_replicated zero v = refl
 cells_replicated (suc n) v = ap (λ (l : List Cell). cell_of v ∷ l) (cells_replicated n v)
 
-first_same : (b : BaseType) (size : Option ℕ) → first_cells (declared_slot b size) ≡ cells_of (first_cells_of size (zero_value b))
+first_same : (b : BaseType) (size : Option ℕ) → first_cells (declared_slot b size) ≡ cells_of (first_cells_of size (zero_of b))
 first_same b None = ap (λ (c : Cell). c ∷ []) (sym (zero_cell b))
-first_same b (Some count) = ap (replicate count) (sym (zero_cell b)) ∙ sym (cells_replicated count (zero_value b))
+first_same b (Some count) = ap (replicate count) (sym (zero_cell b)) ∙ sym (cells_replicated count (zero_of b))
 
 -- no argument without a parameter
 argument_there : (m : ℕ) (slots : List SlotEntry) (vs : List Value) (n : ℕ) (v : Value) → ArgumentsFit (take m slots) vs → slice_get slots n ≡ None → slice_get vs n ≡ Some v → ⊥

@@ -8,14 +8,14 @@ use Rattle.resolved.specs.declared.expression.Variable.{Variable}
 use Rattle.resolved.specs.declared.expression.Variable.TheVariants.{Global, Local}
 use Rattle.common.specs.declared.operator.Prefix.{Prefix}
 use Rattle.common.specs.declared.operator.Prefix.TheVariants as prefix
-use Rattle.resolved.specs.declared.expression.Operator.{Operator}
-use Rattle.resolved.specs.declared.expression.Operator.TheVariants as operator
+use Rattle.common.specs.declared.operator.Operator.{Operator}
+use Rattle.common.specs.declared.operator.Operator.TheVariants as operator
 use Rattle.common.specs.declared.direction.Direction.TheVariants as direction
 use Rattle.common.proofs.Cases.{none_there}
 use Rattle.resolved.specs.Program.{Program, ProcedureEntry, SlotEntry, ChannelEntry}
 use Rattle.resolved.specs.WellFormed.{VariableType, variable_type, scalar_by, array_by, has_length, channel_is, prefix_base, operand_base, result_base}
 use Rattle.modules.specs.Contents.{ProcedureContents, ModuleContents}
-use Rattle.modules.specs.Machine.{machine_code, header_of}
+use Rattle.modules.specs.Machine.{machine_code, header_of, parameter_kinds}
 use Rattle.modules.specs.MachineParts.{kinds_of}
 use Rattle.modules.specs.Values.{is_same_kind}
 use Rattle.modules.specs.declared.instruction.Instruction.{Instruction}
@@ -198,9 +198,9 @@ module _ (m : ModuleContents) (p : ProcedureContents) where
       going (instruction.Send channel) (Int ∷ kinds) kinds refl refl refl (unless-right (is_output (slice_get (machine_code m).directions channel)) SlotOrIndex h)
 
   pub call-does : (f : ℕ) (callee : ProcedureContents) (kinds : List BaseType) → slice_get m.procedures f ≡ Some callee
-      → Does m p (instruction.Call f) (reverse (header_of callee).parameters ++ kinds) (pushed callee.returned kinds)
+      → Does m p (instruction.Call f) (reverse (parameter_kinds callee) ++ kinds) (pushed callee.returned kinds)
   call-does f callee kinds h =
-      let wanted = reverse (header_of callee).parameters in
+      let wanted = reverse (parameter_kinds callee) in
       going (instruction.Call f) (wanted ++ kinds) (pushed callee.returned kinds)
       (ap (λ (o : Option ProcedureContents). if (called o).own then exchanged (called o) (wanted ++ kinds) else Misses OperandKind) h
       ∙ ap (λ (e : Effect). and_then e (λ rest. Leaves (pushed callee.returned rest))) (pops-all wanted kinds))

@@ -3,8 +3,8 @@ use Rattle.std.proofs.Common.{◌≡◌, refl, Bool, true, false, ◌&&◌}
 use Rattle.std.proofs.lemmas.Bool.{and_parts}
 use Rattle.common.specs.declared.base_type.BaseType.{BaseType}
 use Rattle.common.specs.declared.base_type.BaseType.TheVariants as base
-use Rattle.resolved.specs.declared.expression.Operator.{Operator}
-use Rattle.resolved.specs.declared.expression.Operator.TheVariants as operator
+use Rattle.common.specs.declared.operator.Operator.{Operator}
+use Rattle.common.specs.declared.operator.Operator.TheVariants as operator
 use Rattle.resolved.specs.Tree.{Expression, Integer, Logical, Read, Element, Unary, Binary, Short}
 use Rattle.resolved.specs.Program.{Program, ProcedureEntry}
 use Rattle.resolved.specs.WellFormed.{has_base, same_base, operand_base, result_base}

@@ -1,13 +1,14 @@
 -- What it means that a machine does what an outcome says, and how such runs are put together.
 use Rattle.std.proofs.Common.{◌≡◌, ℕ, zero, suc, ◌≤◌, ◌⊎◌, inl, inr, Bool, true, false, List, [], ◌∷◌, ◌++◌, refl, subst, arith}
 use Rattle.std.specs.Prelude.{Option, Some, if◌then◌else◌}
-use Rattle.resolved.specs.declared.expression.Value.{Value}
+use Rattle.common.specs.declared.value.Value.{Value}
 use Rattle.resolved.specs.declared.statement.Exit.TheVariants.{Normal, Return, Break, Continue, Throw}
 use Rattle.resolved.specs.SourceState as source
-use Rattle.resolved.specs.Value.{Evaluated, Yields, Raises, truth_in}
+use Rattle.common.specs.Values.{truth_in}
+use Rattle.resolved.specs.Value.{Evaluated, Yields, Raises}
 use Rattle.resolved.specs.Meaning.{Outcome, Ended, Stopped, Deep, OutOfFuel, after, evaluated, looped, fuel, caught, normally, state_after}
 use Rattle.resolved.specs.Kinds.{StateFits}
-use Rattle.modules.specs.declared.value.Cell.{Cell}
+use Rattle.common.specs.declared.value.Value.{Value as Cell}
 use Rattle.modules.specs.declared.instruction.Instruction.{Instruction}
 use Rattle.modules.specs.Machine as machine
 use Rattle.modules.specs.Machine.{Machine}

@@ -3,8 +3,8 @@ use Rattle.common.specs.Functions.{updated}
 use Rattle.std.proofs.Common.{◌≡◌, ℕ, ◌+◌, Bool, true, false, not, ℤ, pos, negsuc, List, [], ◌∷◌, ◌++◌, length, map, refl, sym, ap, ◌∙◌, slice_get, subst, arith, nat_lt}
 use Rattle.std.specs.Prelude.{Option, Some, None, if◌then◌else◌, is_none, slice_set}
 use Rattle.std.proofs.lemmas.List.{map-set, length-map}
-use Rattle.resolved.specs.declared.expression.Value.{Value}
-use Rattle.resolved.specs.declared.expression.Value.TheVariants.{Number, Truth}
+use Rattle.common.specs.declared.value.Value.{Value}
+use Rattle.common.specs.declared.value.Value.TheVariants.{Int as Number, Bool as Truth}
 use Rattle.common.specs.declared.base_type.BaseType.TheVariants as base
 use Rattle.resolved.specs.declared.expression.Variable.{Variable}
 use Rattle.resolved.specs.declared.expression.Variable.TheVariants.{Local}
@@ -15,15 +15,16 @@ use Rattle.resolved.specs.Tree.{Expression}
 use Rattle.resolved.specs.Program as resolved
 use Rattle.resolved.specs.SourceState as source
 use Rattle.resolved.specs.SourceState.{value_of, cells, cell_at, assigned, stored, cleared, with_cells}
-use Rattle.resolved.specs.Value.{Yields, Raises, base_of, checked_index, zero_value}
+use Rattle.common.specs.Values.{kind_of, zero_of}
+use Rattle.resolved.specs.Value.{Yields, Raises, checked_index}
 use Rattle.resolved.specs.Meaning.{Ended, normally, evaluated, received, given_to, sending}
 use Rattle.resolved.specs.WellFormed.{VariableType, variable_type, has_base, same_base, scalar_by, array_by, target_by, channel_is, is_array, may_leave_by, is_exception, has_result, cell_count}
 use Rattle.resolved.specs.Kinds.{StateFits, CellsFit}
 use Rattle.resolved.proofs.Sound.Values.{value_fits}
 use Rattle.resolved.proofs.Sound.Meanings.{base_given}
-use Rattle.modules.specs.declared.value.Cell.{Cell}
+use Rattle.common.specs.declared.value.Value.{Value as Cell}
 use Rattle.common.specs.declared.base_type.BaseType.{BaseType}
-use Rattle.modules.specs.declared.value.Cell.TheVariants as cell
+use Rattle.common.specs.declared.value.Value.TheVariants as cell
 use Rattle.modules.specs.declared.declaration.Slot.{Slot}
 use Rattle.modules.specs.declared.declaration.Slot.TheVariants as slot
 use Rattle.modules.specs.declared.instruction.Instruction.{Instruction}
@@ -73,7 +74,7 @@ module _ (g : Setting) (loop : Loop) (h : ℕ → Option ℕ) (k : ℕ) (s : sou
       go None e = absurd (let no : false ≡ true = e in cc)
       go (Some entry) e = by entry.direction e
 
-  send-value : (channel at : ℕ) (v : Value) (more : List Instruction) → channel_is (slice_get g.program.channels channel) Output ≡ true → base_of v ≡ base.Int
+  send-value : (channel at : ℕ) (v : Value) (more : List Instruction) → channel_is (slice_get g.program.channels channel) Output ≡ true → kind_of v ≡ base.Int
       → Stands g.code (instruction.Send channel ∷ more) at → Leads g.p (position g at (cell_of v ∷ []) s) (position g (at + 1) [] (sending channel v s))
   send-value channel at (Number z) more is_output typed stands =
       does g more (instruction.Send channel) at (cell.Int z ∷ []) s _ stands
@@ -152,7 +153,7 @@ module _ (g : Setting) (loop : Loop) (h : ℕ → Option ℕ) (k : ℕ) (s : sou
           does g more (instruction.Clear slot) at [] s _ stands
           (ap (clears g.p S slot) (g.locals_there slot ∙ slot_is)
           ∙ ap (λ (cells : List Cell). goes_on g.p (with_slot S slot cells) []) (cleared_cells type.base (s.locals slot) count (fits.count ∙ ap cell_count e) (λ v f. f) fits.kinds)
-          ∙ ap (λ (q : State). goes_on g.p q []) (with_slot-is g at [] s slot (map (λ v. zero_value (base_of v)) (s.locals slot)))
+          ∙ ap (λ (q : State). goes_on g.p q []) (with_slot-is g at [] s slot (map (λ v. zero_of (kind_of v)) (s.locals slot)))
           ∙ onward g at [] [] (cleared s slot))
 
       go : (o : Option VariableType) → variable_type g.program g.procedure (Local slot) ≡ o → is_array o ≡ true → Leads g.p (position g at [] s) (position g (at + 1) [] (cleared s slot))
@@ -160,7 +161,7 @@ module _ (g : Setting) (loop : Loop) (h : ℕ → Option ℕ) (k : ℕ) (s : sou
       go (Some type) is e = sized type is type.size refl e
 
   element-stored : (x : Variable) (count : ℕ) (v w : Value) (at : ℕ) (more : List Instruction) (type : VariableType) → variable_type g.program g.procedure x ≡ Some type
-      → type.size ≡ Some count → base_of v ≡ base.Int → base_of w ≡ type.base → Stands g.code (store_element_of x ∷ more) at → ((exception : ℕ) → g.p.find g.number at exception ≡ h exception)
+      → type.size ≡ Some count → kind_of v ≡ base.Int → kind_of w ≡ type.base → Stands g.code (store_element_of x ∷ more) at → ((exception : ℕ) → g.p.find g.number at exception ≡ h exception)
       → Runs g loop h k (position g at (cell_of w ∷ cell_of v ∷ []) s) (at + 1) (evaluated (checked_index v count) s (λ i. normally (stored s x i w)))
   element-stored x count (Truth b) w at more type is size is_int same stands finds = absurd (let no : base.Boolean ≡ base.Int = is_int in cc)
   element-stored x count (Number z) w at more type is size is_int same stands finds = go z

@@ -6,8 +6,8 @@ use Rattle.std.specs.List.{list_all}
 use Rattle.std.proofs.Math.Path.{fun_ext}
 use Rattle.std.proofs.lemmas.Option.{slice_get-map}
 use Rattle.std.proofs.lemmas.Bool.{and_parts, false≢true}
-use Rattle.resolved.specs.declared.expression.Value.{Value}
-use Rattle.resolved.specs.declared.expression.Value.TheVariants.{Number, Truth}
+use Rattle.common.specs.declared.value.Value.{Value}
+use Rattle.common.specs.declared.value.Value.TheVariants.{Int as Number, Bool as Truth}
 use Rattle.common.specs.declared.base_type.BaseType.{BaseType}
 use Rattle.common.specs.declared.base_type.BaseType.TheVariants as base
 use Rattle.resolved.specs.declared.statement.Exit.TheVariants.{Normal, Return, Break, Continue, Throw}
@@ -16,7 +16,7 @@ use Rattle.common.specs.declared.direction.Direction.TheVariants.{Input, Output}
 use Rattle.common.proofs.Cases.{none_there}
 use Rattle.resolved.specs.Program.{Program, ProcedureEntry, ResultEntry, GlobalEntry, ChannelEntry, channel_at, procedure_at}
 use Rattle.resolved.specs.SourceState as source
-use Rattle.resolved.specs.Value.{base_of}
+use Rattle.common.specs.Values.{kind_of}
 use Rattle.resolved.specs.Exits.{thrown_exits, declared_by}
 use Rattle.resolved.specs.Labelled.{exit_faults}
 use Rattle.resolved.specs.Meaning as meaning
@@ -31,9 +31,9 @@ use Rattle.resolved.proofs.Sound.Runs.{runs_begin_typed}
 use Rattle.isolation.specs.Runs.{ExitsAmong}
 use Rattle.isolation.proofs.Among.{calls-among}
 use Rattle.isolation.proofs.Declared.{ends-as-declared}
-use Rattle.modules.specs.declared.value.Cell.{Cell}
+use Rattle.common.specs.declared.value.Value.{Value as Cell}
 use Rattle.modules.specs.Contents.{ProcedureContents}
-use Rattle.modules.specs.Values.{zero_of}
+use Rattle.common.specs.Values.{zero_of}
 use Rattle.modules.specs.Machine as machine
 use Rattle.modules.specs.MachineParts as pieces
 use Rattle.modules.specs.Machine.{Machine, Running}
@@ -52,7 +52,7 @@ use Rattle.resolved.proofs.Exits.{thrown-break, thrown-continue}
 
 -- ---- the first state
 
-zero_value_cell : (v : Value) (b : BaseType) → base_of v ≡ b → is_zero_value v ≡ true → cell_of v ≡ zero_of b
+zero_value_cell : (v : Value) (b : BaseType) → kind_of v ≡ b → is_zero_value v ≡ true → cell_of v ≡ zero_of b
 zero_value_cell (Number (pos n)) base.Int e h = let none : n ≡ 0 = eqb-true n 0 h in rw none refl
 zero_value_cell (Number (negsuc n)) base.Int e h = absurd (let no : false ≡ true = h in cc)
 zero_value_cell (Truth false) base.Boolean e h = refl
@@ -64,7 +64,7 @@ scalar_begins : (v : Value) → machine.first_global (scalar_global v) ≡ cell_
 scalar_begins (Number z) = refl
 scalar_begins (Truth b) = refl
 
-sized_begins : (entry : GlobalEntry) (size : Option ℕ) → entry.size ≡ size → base_of entry.first ≡ entry.base → (is_none entry.size || is_zero_value entry.first) ≡ true
+sized_begins : (entry : GlobalEntry) (size : Option ℕ) → entry.size ≡ size → kind_of entry.first ≡ entry.base → (is_none entry.size || is_zero_value entry.first) ≡ true
     → machine.first_global (global_contents entry) ≡ cells_of (meaning.cells_of entry.size entry.first)
 sized_begins entry None e h empty = rw e (scalar_begins entry.first)
 sized_begins entry (Some count) e h empty =
@@ -79,8 +79,8 @@ global_begins program formed k (Some entry) e =
     (and_parts (list_all _ program.globals) _ (program_parts program formed).globals_are).0 in
     let fit : first_fits entry ≡ true =
     (and_parts (size_fits entry.size && label_fits program.hierarchy entry.label) _ (passes_at _ program.globals k entry all_fit e)).1 in
-    let two = and_parts (same_base (base_of entry.first) entry.base) (is_none entry.size || is_zero_value entry.first) fit in
-    sized_begins entry entry.size refl (same_base_is (base_of entry.first) entry.base two.0) two.1
+    let two = and_parts (same_base (kind_of entry.first) entry.base) (is_none entry.size || is_zero_value entry.first) fit in
+    sized_begins entry entry.size refl (same_base_is (kind_of entry.first) entry.base two.0) two.1
 
 rest_begins : (channels : List ChannelEntry) (none : ChannelEntry) (c : ℕ) (numbers : List ℤ)
     → numbers ≡ left_of (slice_get channels c) (numbers_by (slice_index_or channels c none).direction numbers) numbers
@@ -139,7 +139,7 @@ module _ (program : Program) (formed : well_formed program ≡ true) (none : exi
     ends-by s back (Ended Normal (Some v) t) is same fit among run = absurd (false≢true fit.returned)
     ends-by s back (Ended Return None t) is same fit among run = inl (record { ending = machine.Finished; so = refl; leads = rw (same t) run })
     ends-by s back (Ended Return (Some v) t) is same fit among run =
-        absurd (false≢true (sym (ap (λ (r : Option ResultEntry). has_result r (same_base (base_of v))) nothing) ∙ fit.returned))
+        absurd (false≢true (sym (ap (λ (r : Option ResultEntry). has_result r (same_base (kind_of v))) nothing) ∙ fit.returned))
     ends-by s back (Ended Break returned t) is same fit among run = absurd (false≢true (sym (thrown-break (declared_by main.throws)) ∙ among))
     ends-by s back (Ended Continue returned t) is same fit among run = absurd (false≢true (sym (thrown-continue (declared_by main.throws)) ∙ among))
     ends-by s back (Ended (Throw e) returned t) is same fit among run = inl (record { ending = machine.Threw e; so = refl; leads = rw (same t) run })

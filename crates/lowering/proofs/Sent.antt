@@ -7,7 +7,7 @@ use Rattle.modules.proofs.Tabled.{step-is}
 use Rattle.modules.proofs.Alike.{act-alike}
 use Rattle.modules.specs.declared.instruction.Instruction.{Instruction}
 use Rattle.modules.specs.declared.declaration.Slot.{Slot}
-use Rattle.modules.specs.declared.value.Cell.{Cell}
+use Rattle.common.specs.declared.value.Value.{Value as Cell}
 use Rattle.modules.specs.Machine.{Frame, Caller, State, Machine, Running, Ended, Stuck, sent_of, MachineCode, unwound, raised, step, exec}
 use Rattle.modules.specs.Transitions.{handled, enters, act}
 use Rattle.modules.specs.MachineParts.{leaves, leaves_value, acts}

@@ -20,7 +20,7 @@ use Rattle.resolved.specs.WellFormed.{VariableType, variable_type, has_base, sam
 use Rattle.resolved.proofs.WellFormedParts.{procedure_at_is}
 use Rattle.resolved.proofs.Sound.Values.{same_base_is}
 use Rattle.modules.specs.Contents.{ProcedureContents, ModuleContents}
-use Rattle.modules.specs.Machine.{Header, machine_code, header_of}
+use Rattle.modules.specs.Machine.{Header, machine_code, parameter_kinds}
 use Rattle.common.specs.declared.direction.Direction.{Direction}
 use Rattle.modules.specs.declared.declaration.Handler.{Handler}
 use Rattle.modules.specs.declared.declaration.Slot.TheVariants as slot
@@ -204,7 +204,7 @@ module _ (program : Program) (procedure : ProcedureEntry) (m : ModuleContents) (
       let parts = and_parts (arguments_match program procedure (parameters_of callee) arguments) _ fits in
       let q = stated.called_there f callee there in
       let kinds = map (λ (s : SlotEntry). s.base) (parameters_of callee) in
-      let same : (header_of q.0).parameters ≡ kinds = ap (λ (h : Header). h.parameters) q.2 ∙ parameters-are callee.parameters callee.slots in
+      let same : parameter_kinds q.0 ≡ kinds = ap parameter_kinds q.2 ∙ parameters-are callee.parameters callee.slots in
       let gives : q.0.returned ≡ returned_kind callee.result = ap (λ (h : Header). h.returned) q.2 in
       let calls : Does m p (instruction.Call f) (reverse kinds ++ []) (pushed (returned_kind callee.result) []) =
       subst (λ (r : Option BaseType). Does m p (instruction.Call f) (reverse kinds ++ []) (pushed r [])) gives

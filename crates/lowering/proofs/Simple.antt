@@ -3,8 +3,8 @@ use Rattle.common.specs.Functions.{updated}
 use Rattle.std.proofs.Common.{◌≡◌, ℕ, suc, ◌+◌, Bool, true, false, cond, eqb, ℤ, List, [], ◌∷◌, length, map, refl, sym, ap, ◌∙◌, slice_get, subst, arith, nat_lt, eqb-true, All}
 use Rattle.std.specs.Prelude.{Option, Some, None, if◌then◌else◌, is_none, replicate}
 use Rattle.std.proofs.Math.Path.{fun_ext}
-use Rattle.resolved.specs.declared.expression.Value.{Value}
-use Rattle.resolved.specs.declared.expression.Value.TheVariants.{Number}
+use Rattle.common.specs.declared.value.Value.{Value}
+use Rattle.common.specs.declared.value.Value.TheVariants.{Int as Number}
 use Rattle.common.specs.declared.base_type.BaseType.{BaseType}
 use Rattle.common.specs.declared.base_type.BaseType.TheVariants as base
 use Rattle.resolved.specs.declared.expression.Variable.{Variable}
@@ -16,16 +16,17 @@ use Rattle.common.proofs.Cases.{none_there}
 use Rattle.resolved.specs.Program as resolved
 use Rattle.resolved.specs.SourceState as source
 use Rattle.resolved.specs.SourceState.{value_of, cells, cell_at, assigned, stored, cleared, with_cells}
-use Rattle.resolved.specs.Value.{base_of, zero_value}
+use Rattle.common.specs.Values.{kind_of, zero_of}
 use Rattle.resolved.specs.Meaning.{Ended, given_to}
 use Rattle.resolved.specs.WellFormed.{VariableType, variable_type, has_base, same_base, scalar_by, array_by, target_by, channel_is, is_array, may_leave_by, is_exception, has_result, cell_count}
 use Rattle.resolved.proofs.Sound.Values.{same_base_is}
-use Rattle.modules.specs.declared.value.Cell.{Cell}
-use Rattle.modules.specs.declared.value.Cell.TheVariants as cell
+use Rattle.common.specs.declared.value.Value.{Value as Cell}
+use Rattle.common.specs.declared.value.Value.TheVariants as cell
 use Rattle.modules.specs.declared.declaration.Slot.TheVariants as slot
 use Rattle.modules.specs.declared.instruction.Instruction.{Instruction}
 use Rattle.modules.specs.declared.instruction.Instruction.TheVariants as instruction
-use Rattle.modules.specs.Values.{zero_of, has_kind}
+use Rattle.common.specs.Values.{zero_of}
+use Rattle.modules.specs.Values.{has_kind}
 use Rattle.modules.specs.Machine.{State, raised, stuck}
 use Rattle.modules.specs.Transitions.{leaves_without, gives_back}
 use Rattle.modules.specs.MachineParts.{returns_nothing, returns_value, leaves_value}
@@ -42,27 +43,27 @@ use Rattle.lowering.proofs.Outcomes.{Runs}
 
 -- ---- cells
 
-pub cleared_cells : (b : BaseType) (values : List Value) (count : ℕ) → length values ≡ count → ((v : Value) → base_of v ≡ b → base_of v ≡ b) → All (λ v. base_of v ≡ b) values
-    → replicate count (zero_of b) ≡ cells_of (map (λ v. zero_value (base_of v)) values)
-cleared_cells b values count size same kinds = subst (λ n. replicate n (zero_of b) ≡ cells_of (map (λ v. zero_value (base_of v)) values)) size (go values kinds)
+pub cleared_cells : (b : BaseType) (values : List Value) (count : ℕ) → length values ≡ count → ((v : Value) → kind_of v ≡ b → kind_of v ≡ b) → All (λ v. kind_of v ≡ b) values
+    → replicate count (zero_of b) ≡ cells_of (map (λ v. zero_of (kind_of v)) values)
+cleared_cells b values count size same kinds = subst (λ n. replicate n (zero_of b) ≡ cells_of (map (λ v. zero_of (kind_of v)) values)) size (go values kinds)
   where
-    zero : (b : BaseType) → cell_of (zero_value b) ≡ zero_of b
+    zero : (b : BaseType) → cell_of (zero_of b) ≡ zero_of b
     zero base.Int = refl
     zero base.Boolean = refl
 
-    one : (b c : BaseType) → c ≡ b → zero_of b ≡ cell_of (zero_value c)
-    one b c e = sym (zero b) ∙ ap (λ x. cell_of (zero_value x)) (sym e)
+    one : (b c : BaseType) → c ≡ b → zero_of b ≡ cell_of (zero_of c)
+    one b c e = sym (zero b) ∙ ap (λ x. cell_of (zero_of x)) (sym e)
 
-    go : (values : List Value) → All (λ v. base_of v ≡ b) values → replicate (length values) (zero_of b) ≡ cells_of (map (λ v. zero_value (base_of v)) values)
+    go : (values : List Value) → All (λ v. kind_of v ≡ b) values → replicate (length values) (zero_of b) ≡ cells_of (map (λ v. zero_of (kind_of v)) values)
     go [] all = refl
     go (v ∷ rest) all =
-        ap (λ (c : Cell). c ∷ replicate (length rest) (zero_of b)) (one b (base_of v) (all 0 v (omega arith)))
-        ∙ ap (λ (l : List Cell). cell_of (zero_value (base_of v)) ∷ l) (go rest (λ i d below. all (suc i) d (omega (arith, below))))
+        ap (λ (c : Cell). c ∷ replicate (length rest) (zero_of b)) (one b (kind_of v) (all 0 v (omega arith)))
+        ∙ ap (λ (l : List Cell). cell_of (zero_of (kind_of v)) ∷ l) (go rest (λ i d below. all (suc i) d (omega (arith, below))))
 
 module _ (g : Setting) (loop : Loop) (h : ℕ → Option ℕ) (k : ℕ) (s : source.SourceState) where
   -- a value goes into a scalar of its base type
   pub stores-scalar : (x : Variable) (v : Value) (at : ℕ) (operands : List Cell) (more : List Instruction) (test : BaseType → Bool)
-      → scalar_by (variable_type g.program g.procedure x) test ≡ true → ((b : BaseType) → test b ≡ true → base_of v ≡ b)
+      → scalar_by (variable_type g.program g.procedure x) test ≡ true → ((b : BaseType) → test b ≡ true → kind_of v ≡ b)
       → Stands g.code (store_of x ∷ more) at → Leads g.p (position g at (cell_of v ∷ operands) s) (position g (at + 1) operands (assigned s x v))
   stores-scalar x v at operands more test typed same stands =
       let there = scalar-there (variable_type g.program g.procedure x) test typed in
@@ -97,7 +98,7 @@ module _ (g : Setting) (loop : Loop) (h : ℕ → Option ℕ) (k : ℕ) (s : sou
       → gives_back (state_at g at (cell_of v ∷ []) s) (Some kind) (cell_of v ∷ []) ≡ leaves_value (state_at g at (cell_of v ∷ []) s) (cell_of v) g.callers
   gives_kind at v kind e = rw e refl
 
-  pub returns-value : (at : ℕ) (more : List Instruction) (v : Value) (entry : resolved.ResultEntry) → g.procedure.result ≡ Some entry → base_of v ≡ entry.base
+  pub returns-value : (at : ℕ) (more : List Instruction) (v : Value) (entry : resolved.ResultEntry) → g.procedure.result ≡ Some entry → kind_of v ≡ entry.base
       → Stands g.code (instruction.ReturnValue ∷ more) at → Leads g.p (position g at (cell_of v ∷ []) s) (returned_to g (Some v) s)
   returns-value at more v entry result same stands =
       let S = state_at g at (cell_of v ∷ []) s in

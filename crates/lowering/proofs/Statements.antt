@@ -2,20 +2,21 @@
 use Rattle.std.proofs.Common.{◌≡◌, ℕ, ◌+◌, true, false, List, [], ◌∷◌, ◌++◌, refl, sym, ap, ◌∙◌, subst, arith, slice_get}
 use Rattle.std.proofs.lemmas.Bool.{and_parts}
 use Rattle.std.specs.Prelude.{Option, Some, None}
-use Rattle.resolved.specs.declared.expression.Value.{Value}
+use Rattle.common.specs.declared.value.Value.{Value}
 use Rattle.resolved.specs.declared.expression.Variable.{Variable}
 use Rattle.resolved.specs.declared.statement.Exit.TheVariants.{Normal, Return, Break, Continue, Throw}
 use Rattle.resolved.specs.Tree.{Expression}
 use Rattle.resolved.specs.Program.{ProcedureEntry, SlotEntry, ResultEntry, procedure_at}
 use Rattle.resolved.specs.SourceState as source
 use Rattle.resolved.specs.SourceState.{value_of, values_of, assigned}
-use Rattle.resolved.specs.Value.{Evaluated, Yields, Raises, then_with, base_of}
+use Rattle.common.specs.Values.{kind_of}
+use Rattle.resolved.specs.Value.{Evaluated, Yields, Raises, then_with}
 use Rattle.resolved.specs.Meaning.{Outcome, Ended, Stopped, Deep, OutOfFuel, Calls, evaluated, returned_to}
 use Rattle.resolved.specs.WellFormed.{has_base, has_result, same_base, target_by, call_matches, arguments_match, parameters_of}
 use Rattle.resolved.specs.Kinds.{StateFits, ArgumentsFit}
 use Rattle.resolved.proofs.WellFormedParts.{procedure_at_is}
 use Rattle.resolved.proofs.Sound.Values.{same_base_is, values_match, GivesMatch}
-use Rattle.modules.specs.declared.value.Cell.{Cell}
+use Rattle.common.specs.declared.value.Value.{Value as Cell}
 use Rattle.modules.specs.declared.instruction.Instruction.{Instruction}
 use Rattle.modules.specs.declared.instruction.Instruction.TheVariants as instruction
 use Rattle.modules.specs.Machine as machine
@@ -78,7 +79,7 @@ abbrev pub Called : Setting → (k : ℕ) → Machine → (at : ℕ) → Option 
 Called g k from at None (Ended Normal None t) = Leads g.p from (position g (at + 1) [] t)
 Called g k from at None (Ended Normal (Some v) t) = ⊥
 Called g k from at (Some entry) (Ended Normal None t) = ⊥
-Called g k from at (Some entry) (Ended Normal (Some v) t) = (base_of v ≡ entry.base) × Leads g.p from (position g (at + 1) (cell_of v ∷ []) t)
+Called g k from at (Some entry) (Ended Normal (Some v) t) = (kind_of v ≡ entry.base) × Leads g.p from (position g (at + 1) (cell_of v ∷ []) t)
 Called g k from at result (Ended Return returned t) = ⊥
 Called g k from at result (Ended Break returned t) = ⊥
 Called g k from at result (Ended Continue returned t) = ⊥

@@ -2,8 +2,7 @@
 use Rattle.std.proofs.Common.{◌≡◌, ℕ, ◌+◌, Bool, true, false, cond, eqb, ℤ, List, [], ◌∷◌, length, map, refl, ap, slice_get}
 use Rattle.std.specs.Prelude.{Option, Some, None}
 use Rattle.std.proofs.Math.Path.{fun_ext}
-use Rattle.resolved.specs.declared.expression.Value.{Value}
-use Rattle.resolved.specs.declared.expression.Value.TheVariants as value
+use Rattle.common.specs.declared.value.Value.{Value}
 use Rattle.common.specs.declared.base_type.BaseType.{BaseType}
 use Rattle.common.specs.declared.base_type.BaseType.TheVariants as base
 use Rattle.resolved.specs.declared.expression.Variable.TheVariants.{Global, Local}
@@ -11,10 +10,10 @@ use Rattle.common.specs.declared.direction.Direction.{Direction}
 use Rattle.common.specs.declared.direction.Direction.TheVariants.{Input, Output}
 use Rattle.resolved.specs.Program as resolved
 use Rattle.resolved.specs.SourceState as source
-use Rattle.resolved.specs.Value.{base_of}
+use Rattle.common.specs.Values.{kind_of}
 use Rattle.resolved.specs.WellFormed.{VariableType, variable_type}
-use Rattle.modules.specs.declared.value.Cell.{Cell}
-use Rattle.modules.specs.declared.value.Cell.TheVariants as cell
+use Rattle.common.specs.declared.value.Value.{Value as Cell}
+use Rattle.common.specs.declared.value.Value.TheVariants as cell
 use Rattle.modules.specs.declared.declaration.Slot.{Slot}
 use Rattle.modules.specs.declared.instruction.Instruction.{Instruction}
 use Rattle.modules.specs.Values.{has_kind}
@@ -24,8 +23,8 @@ use Rattle.modules.specs.MachineParts.{slots_of, with_slot, with_global, leaves,
 use Rattle.lowering.specs.Interface.{declared_slot, returned_kind}
 
 abbrev pub cell_of : Value → Cell
-cell_of (value.Number z) = cell.Int z
-cell_of (value.Truth b) = cell.Bool b
+cell_of (cell.Int z) = cell.Int z
+cell_of (cell.Bool b) = cell.Bool b
 
 abbrev pub cells_of : List Value → List Cell
 cells_of values = map cell_of values
@@ -131,11 +130,11 @@ leaves_value-is g at operands v s = go g.callers
 
 -- ---- kinds
 
-pub kind-same : (v : Value) (b : BaseType) → base_of v ≡ b → has_kind b (cell_of v) ≡ true
-kind-same (value.Number z) base.Int h = refl
-kind-same (value.Truth b) base.Boolean h = refl
-kind-same (value.Number z) base.Boolean h = cc
-kind-same (value.Truth b) base.Int h = cc
+pub kind-same : (v : Value) (b : BaseType) → kind_of v ≡ b → has_kind b (cell_of v) ≡ true
+kind-same (cell.Int z) base.Int h = refl
+kind-same (cell.Bool b) base.Boolean h = refl
+kind-same (cell.Int z) base.Boolean h = cc
+kind-same (cell.Bool b) base.Int h = cc
 
 -- ---- changed cells
 

@@ -6,18 +6,19 @@ use Rattle.std.proofs.lemmas.Bool.{ltb-true, ltb-false, and_parts}
 use Rattle.std.proofs.lemmas.List.{length-map}
 use Rattle.std.proofs.lemmas.Option.{slice_get-get_or, slice_get_past, slice_get-map}
 use Rattle.common.proofs.Cases.{none_there}
-use Rattle.resolved.specs.declared.expression.Value.{Value}
-use Rattle.resolved.specs.declared.expression.Value.TheVariants.{Number, Truth}
+use Rattle.common.specs.declared.value.Value.{Value}
+use Rattle.common.specs.declared.value.Value.TheVariants.{Int as Number, Bool as Truth}
 use Rattle.common.specs.declared.base_type.BaseType.{BaseType}
 use Rattle.common.specs.declared.base_type.BaseType.TheVariants as base
 use Rattle.resolved.specs.declared.expression.Variable.{Variable}
 use Rattle.resolved.specs.SourceState as source
 use Rattle.resolved.specs.SourceState.{value_of, cells, cell_at}
-use Rattle.resolved.specs.Value.{Evaluated, Yields, Raises, then_with, base_of, checked_index}
+use Rattle.common.specs.Values.{kind_of}
+use Rattle.resolved.specs.Value.{Evaluated, Yields, Raises, then_with, checked_index}
 use Rattle.resolved.specs.WellFormed.{VariableType, variable_type, same_base, scalar_by, array_by, has_length, cell_count}
 use Rattle.resolved.specs.Kinds.{StateFits, CellsFit}
-use Rattle.modules.specs.declared.value.Cell.{Cell}
-use Rattle.modules.specs.declared.value.Cell.TheVariants as cell
+use Rattle.common.specs.declared.value.Value.{Value as Cell}
+use Rattle.common.specs.declared.value.Value.TheVariants as cell
 use Rattle.modules.specs.declared.declaration.Slot.{Slot}
 use Rattle.modules.specs.declared.declaration.Slot.TheVariants as slot
 use Rattle.modules.specs.declared.instruction.Instruction.{Instruction}
@@ -122,7 +123,7 @@ module _ (g : Setting) (h : ℕ → Option ℕ) (s : source.SourceState) (fit : 
       slot_is type e f = rw (e, f) refl
 
   pub element-runs : (x : Variable) (count : ℕ) (b : BaseType) (v : Value) (at : ℕ) (operands : List Cell) (more : List Instruction)
-      → array_by (variable_type g.program g.procedure x) count (same_base b) ≡ true → base_of v ≡ base.Int → Stands g.code (load_element_of x ∷ more) at
+      → array_by (variable_type g.program g.procedure x) count (same_base b) ≡ true → kind_of v ≡ base.Int → Stands g.code (load_element_of x ∷ more) at
       → ((exception : ℕ) → g.p.find g.number at exception ≡ h exception)
       → ValueRuns g h operands (position g at (cell_of v ∷ operands) s) (at + 1) s (then_with (checked_index v count) (λ i. Yields (cell_at (cells s x) i)))
   element-runs x count b (Truth t) at operands more typed is_int stands finds = cc

@@ -2,14 +2,14 @@
 -- Source: our own.
 use Rattle.std.specs.Prelude.{All, FitsSigned}
 use Rattle.std.specs.Int.{w32}
-use Rattle.resolved.specs.declared.expression.Value.{Value}
-use Rattle.resolved.specs.declared.expression.Value.TheVariants.{Number, Truth}
+use Rattle.common.specs.declared.value.Value.{Value}
+use Rattle.common.specs.declared.value.Value.TheVariants as value
 use Rattle.resolved.specs.Program.{Program, GlobalEntry}
 
 -- a number of 32 bits, or a truth
 abbrev pub IsShortValue : Value → Type 0
-IsShortValue (Number z) = FitsSigned w32 z
-IsShortValue (Truth b) = Unit {0}
+IsShortValue (value.Int z) = FitsSigned w32 z
+IsShortValue (value.Bool b) = Unit {0}
 
 -- what the globals hold at first is of 32 bits, as in every program of the code
 abbrev pub HasShortValues : Program → Type 0

@@ -5,9 +5,11 @@ use Rattle.std.specs.Prelude.{◌≡◌, ◌↔◌, ℕ, map, Option, Some, None
 use Rattle.principals.specs.ActsFor.{ActsFor, PrincipalHierarchy}
 use Rattle.labels.specs.Sets.{ascending_set}
 use Rattle.common.specs.declared.base_type.BaseType.{BaseType}
-use Rattle.resolved.specs.declared.expression.Value.{Value}
-use Rattle.resolved.specs.declared.expression.Value.TheVariants.{Number, Truth}
-use Rattle.resolved.specs.BitUse.{uses_bits}
+use Rattle.common.specs.declared.value.Value.{Value}
+use Rattle.common.specs.declared.value.Value.TheVariants as value
+use Rattle.std.specs.List.{list_any}
+use Rattle.resolved.specs.BitUse.{expression_uses_bits, uses_bits}
+use Rattle.resolved.specs.Labelled.{program_judgement}
 use Rattle.resolved.specs.Program.{Program, ChannelEntry, GlobalEntry, SlotEntry, ResultEntry}
 use Rattle.modules.specs.declared.declaration.Slot.{Slot}
 use Rattle.modules.specs.declared.declaration.Slot.TheVariants as slot
@@ -36,8 +38,8 @@ slot_contents entry = declared_slot entry.base entry.size
 
 -- a global that holds a value at first
 abbrev pub scalar_global : Value → Global
-scalar_global (Number z) = global.Int z
-scalar_global (Truth b) = global.Boolean b
+scalar_global (value.Int z) = global.Int z
+scalar_global (value.Bool b) = global.Boolean b
 
 abbrev pub declared_global : BaseType → (size : Option ℕ) → (first : Value) → Global
 declared_global type None first = scalar_global first
@@ -59,7 +61,7 @@ module_version program = if uses_bits program then Two else One
 -- the same numbers, of whom the same act for each other; its channels with the same numbers, and the names of its declared exceptions
 -- with the same numbers
 pub record HasInterfaceOf (program : Program) (m : ModuleContents) : Type 0 where
-  pub version : m.version ≡ (if uses_bits program then Two else One)
+  pub version : m.version ≡ (if list_any expression_uses_bits (program_judgement program).expressions then Two else One)
   pub names : m.hierarchy.names ≡ program.hierarchy.names
   pub acts : (a b : ℕ) → ActsFor m.hierarchy.pairs a b ↔ ActsFor program.hierarchy.pairs a b
   pub channels : m.channels ≡ map channel_contents program.channels

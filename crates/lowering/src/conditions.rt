@@ -7,9 +7,9 @@ ghost use Rattle.std.specs.Prelude.{OnOk, if◌then◌else◌, length, ◌++◌,
 use crate::emitter::push;
 use crate::instructions::operator_instruction;
 use crate::operands::{push_value, value_size};
-use common::{Connective, Prefix};
+use common::{Connective, Operator, Prefix};
 use modules::{Instruction, MachineOperator};
-use resolved::expression::{Expression, Operator};
+use resolved::expression::Expression;
 use std::alloc::AllocError;
 
 /// The operator that is true exactly where an operator is false; one that gives a number stays.

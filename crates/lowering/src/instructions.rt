@@ -2,9 +2,9 @@
 ghost use Rattle.lowering.specs.Expressions.{load_element_of, load_of, machine_operator, operator_instruction, prefix_instruction, store_element_of, store_of};
 ghost use Rattle.std.specs.Prelude.{◌≡◌};
 
-use common::Prefix;
+use common::{Operator, Prefix};
 use modules::{Instruction, MachineOperator, Storage};
-use resolved::expression::{Operator, Variable};
+use resolved::expression::Variable;
 
 /// The instruction of an operator before its operand.
 pub(crate) fn prefix_instruction(prefix: Prefix) -> Instruction

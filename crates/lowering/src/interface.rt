@@ -5,11 +5,10 @@ ghost use Rattle.lowering.specs.Interface.{channel_contents, declared_global, gl
 ghost use Rattle.lowering.specs.Fitting.{IsShortValue};
 ghost use Rattle.std.specs.Prelude.{All, IfOk, List, map, ◌≡◌};
 
-use common::BaseType;
+use common::{BaseType, Value};
 use labels::LabelTable;
 use modules::Channel;
 use principals::Hierarchy;
-use resolved::expression::Value;
 use resolved::tables;
 use std::alloc::{AllocError, Global};
 
@@ -55,8 +54,8 @@ fn scalar_global(value: Value) -> modules::Global
     ensures short { IsShortValue value }
 {
     match value {
-        Value::Number(number) => modules::Global::Int(number),
-        Value::Truth(truth) => modules::Global::Boolean(truth),
+        Value::Int(number) => modules::Global::Int(number),
+        Value::Bool(truth) => modules::Global::Boolean(truth),
     }
 }
 

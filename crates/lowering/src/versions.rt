@@ -6,9 +6,9 @@ ghost use Rattle.resolved.specs.TreeOf.{block_of, expression_of, handlers_of, st
 ghost use Rattle.std.specs.List.{list_any};
 ghost use Rattle.std.specs.Prelude.{map, ◌≡◌};
 
-use common::Arithmetic;
+use common::{Arithmetic, Operator};
 use modules::Version;
-use resolved::expression::{Expression, Operator};
+use resolved::expression::Expression;
 use resolved::program::Core;
 use resolved::statement::{Handler, Statement};
 

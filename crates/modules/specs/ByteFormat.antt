@@ -36,46 +36,33 @@ pub data ByteFormat : Type 0 → Type 1 where
 
 -- ---- which bytes spell a value
 
+-- a number in four bytes, the highest first
+abbrev pub SpellsNumber : ℕ → List ℕ → Type 0
+SpellsNumber n bytes = (n < 2 ^ 32) × (bytes ≡ to_be_bytes w32 n)
+
+-- bytes of the one kind, and then bytes of the other
+abbrev pub AreInTurn : (first second : List ℕ → Type 0) → List ℕ → Type 0
+AreInTurn first second bytes = (front : List ℕ) × (back : List ℕ) × first front × second back × (bytes ≡ front ++ back)
+
 -- the values one after the other, each spelled with those before it at hand
-abbrev pub spelled_each : {A : Type 0} → (List A → A → List ℕ) → List A → List A → List ℕ
-spelled_each one before [] = []
-spelled_each one before (x ∷ xs) = one before x ++ spelled_each one (before ++ x ∷ []) xs
-
--- the bytes that spell a value that fits the format
-abbrev pub spelled : {A : Type 0} → ByteFormat A → A → List ℕ
-spelled (OneOf same values) x = position_or_len (same x) values ∷ []
-spelled Number n = to_be_bytes w32 n
-spelled Text text = to_be_bytes w32 (length text) ++ text
-spelled (Nothing a) x = []
-spelled (Marked kind n form) x = to_be_bytes w32 n ++ spelled form x
-spelled (Checked kind test form) x = spelled form x
-spelled (Then first second) x = spelled first x.0 ++ spelled (second x.0) x.1
-spelled (Counted test one) xs = to_be_bytes w32 (length xs) ++ spelled_each (λ before x. spelled (one before) x) [] xs
-spelled (Code version) code = to_be_bytes w32 (length (code_bytes code)) ++ code_bytes code
-spelled (Named make fields form) x = spelled form (fields x)
-
--- ---- which values have a spelling
-
-abbrev pub FitEach : {A : Type 0} → (List A → A → Type 0) → List A → List A → Type 0
-FitEach one before [] = Unit {0}
-FitEach one before (x ∷ xs) = one before x × FitEach one (before ++ x ∷ []) xs
-
--- the values of the format
-abbrev pub Fits : {A : Type 0} → ByteFormat A → A → Type 0
-Fits (OneOf same values) x = slice_get values (position_or_len (same x) values) ≡ Some x
-Fits Number n = n < 2 ^ 32
-Fits Text text = length text < 2 ^ 32
-Fits (Nothing a) x = x ≡ a
-Fits (Marked kind n form) x = Fits form x
-Fits (Checked kind test form) x = Fits form x × (test x ≡ true)
-Fits (Then first second) x = Fits first x.0 × Fits (second x.0) x.1
-Fits (Counted test one) xs = (length xs < 2 ^ 32) × (test (length xs) ≡ true) × FitEach (λ before x. Fits (one before) x) [] xs
-Fits (Code version) code = (length (code_bytes code) < 2 ^ 32) × AllByRecursion (HasSpelling version) code
-Fits (Named make fields form) x = Fits form (fields x) × (make (fields x) ≡ x)
+abbrev pub SpellsEach : {A : Type 0} → (List A → A → List ℕ → Type 0) → List A → List A → List ℕ → Type 0
+SpellsEach one before [] bytes = bytes ≡ []
+SpellsEach one before (x ∷ xs) bytes = AreInTurn (one before x) (SpellsEach one (before ++ x ∷ []) xs) bytes
 
 -- the bytes are the spelling of the value, each of them
 abbrev pub Spells : {A : Type 0} → ByteFormat A → A → List ℕ → Type 0
-Spells form x bytes = Fits form x × (bytes ≡ spelled form x)
+Spells (OneOf same values) x bytes = (number : ℕ) × (slice_get values number ≡ Some x) × (bytes ≡ number ∷ [])
+Spells Number n bytes = SpellsNumber n bytes
+Spells Text text bytes = AreInTurn (SpellsNumber (length text)) (λ rest. rest ≡ text) bytes
+Spells (Nothing a) x bytes = (x ≡ a) × (bytes ≡ [])
+Spells (Marked kind n form) x bytes = AreInTurn (SpellsNumber n) (Spells form x) bytes
+Spells (Checked kind test form) x bytes = (test x ≡ true) × Spells form x bytes
+Spells (Then first second) x bytes = AreInTurn (Spells first x.0) (Spells (second x.0) x.1) bytes
+Spells (Counted test one) xs bytes =
+    (test (length xs) ≡ true) × AreInTurn (SpellsNumber (length xs)) (SpellsEach (λ before x. Spells (one before) x) [] xs) bytes
+Spells (Code version) code bytes =
+    AllByRecursion (HasSpelling version) code × AreInTurn (SpellsNumber (length (code_bytes code))) (λ rest. rest ≡ code_bytes code) bytes
+Spells (Named make fields form) x bytes = (make (fields x) ≡ x) × Spells form (fields x) bytes
 
 -- ---- reading, and the first refusal
 
@@ -188,3 +175,39 @@ abbrev pub read_all : {A : Type 0} → ByteFormat A → List ℕ → Result A Re
 read_all form bytes = do
   found ← read form bytes
   if length found.1 == 0 then Ok found.0 else Err (stop_at Trailing found.1)
+
+-- ---- parts of the rules, by which proofs speak of them
+
+abbrev pub spelled_each : {A : Type 0} → (List A → A → List ℕ) → List A → List A → List ℕ
+spelled_each one before [] = []
+spelled_each one before (x ∷ xs) = one before x ++ spelled_each one (before ++ x ∷ []) xs
+
+-- the bytes that spell a value that fits the format
+abbrev pub spelled : {A : Type 0} → ByteFormat A → A → List ℕ
+spelled (OneOf same values) x = position_or_len (same x) values ∷ []
+spelled Number n = to_be_bytes w32 n
+spelled Text text = to_be_bytes w32 (length text) ++ text
+spelled (Nothing a) x = []
+spelled (Marked kind n form) x = to_be_bytes w32 n ++ spelled form x
+spelled (Checked kind test form) x = spelled form x
+spelled (Then first second) x = spelled first x.0 ++ spelled (second x.0) x.1
+spelled (Counted test one) xs = to_be_bytes w32 (length xs) ++ spelled_each (λ before x. spelled (one before) x) [] xs
+spelled (Code version) code = to_be_bytes w32 (length (code_bytes code)) ++ code_bytes code
+spelled (Named make fields form) x = spelled form (fields x)
+
+abbrev pub FitEach : {A : Type 0} → (List A → A → Type 0) → List A → List A → Type 0
+FitEach one before [] = Unit {0}
+FitEach one before (x ∷ xs) = one before x × FitEach one (before ++ x ∷ []) xs
+
+-- the values of the format: those that have a spelling
+abbrev pub Fits : {A : Type 0} → ByteFormat A → A → Type 0
+Fits (OneOf same values) x = slice_get values (position_or_len (same x) values) ≡ Some x
+Fits Number n = n < 2 ^ 32
+Fits Text text = length text < 2 ^ 32
+Fits (Nothing a) x = x ≡ a
+Fits (Marked kind n form) x = Fits form x
+Fits (Checked kind test form) x = Fits form x × (test x ≡ true)
+Fits (Then first second) x = Fits first x.0 × Fits (second x.0) x.1
+Fits (Counted test one) xs = (length xs < 2 ^ 32) × (test (length xs) ≡ true) × FitEach (λ before x. Fits (one before) x) [] xs
+Fits (Code version) code = (length (code_bytes code) < 2 ^ 32) × AllByRecursion (HasSpelling version) code
+Fits (Named make fields form) x = Fits form (fields x) × (make (fields x) ≡ x)

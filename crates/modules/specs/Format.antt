@@ -7,9 +7,9 @@ use Rattle.std.specs.Int.{w32, cast_signed, cast_unsigned}
 use Rattle.std.specs.List.{list_any}
 use Rattle.std.specs.Option.{option_eq, option_map_or}
 use Rattle.std.specs.Ordering.{is_lt, nat_cmp, on, then_cmp}
-use Rattle.std.specs.Str.{is_utf8}
+use Rattle.std.specs.Str.{chars, is_utf8}
 use Rattle.std.specs.declared.cmp.Ordering.{Ordering}
-use Rattle.lexer.specs.Words.{is_name_text}
+use Rattle.lexer.specs.Words.{is_name}
 use Rattle.principals.specs.ActsFor.{PrincipalHierarchy}
 use Rattle.labels.specs.Label.{ReaderPolicy, Label}
 use Rattle.labels.specs.Canonical.{policy_cmp}
@@ -33,17 +33,11 @@ use Rattle.modules.specs.ByteFormat.{ByteFormat, OneOf, Number, Text, Nothing, M
 
 -- ---- numbers and lists
 
--- any count will do
-abbrev pub any : ℕ → Bool
-any n = true
-
--- an element is above the last of those before it, if there are any
-abbrev pub is_above : {A : Type 0} → (A → A → Ordering) → List A → A → Bool
-is_above cmp before x = option_map_or (λ last. is_lt (cmp last x)) (slice_get before (length before - 1)) true
-
 -- a count, and that many values, each above the one before it
 abbrev pub ascending : {A : Type 0} → (A → A → Ordering) → ByteFormat A → ByteFormat (List A)
-ascending cmp one = Counted any (λ before. Checked NotCanonical (is_above cmp before) one)
+ascending cmp one =
+    Counted (λ _. true) (λ before. Checked NotCanonical
+    (λ x. option_map_or (λ last. is_lt (cmp last x)) (slice_get before (length before - 1)) true) one)
 
 -- the number of one of this many things
 unfoldable pub number_below : ℕ → ByteFormat ℕ
@@ -58,20 +52,17 @@ is_among names name = list_any (λ other. bytes_eq other name) names
 -- a name that is neither taken nor one of those before it
 unfoldable pub name_after : (List ℕ → Bool) → List (List ℕ) → ByteFormat (List ℕ)
 name_after taken before =
-    Checked BadValue (λ name. is_utf8 name && is_name_text name && not (taken name || is_among before name)) Text
+    Checked BadValue (λ name. is_utf8 name && is_name (chars name) && not (taken name || is_among before name)) Text
 
 -- ---- the hierarchy
 
--- pairs ascend by their first number, then by their second
-abbrev pub pair_cmp : ℕ × ℕ → ℕ × ℕ → Ordering
-pair_cmp = then_cmp (on (λ pair. pair.0) nat_cmp) (on (λ pair. pair.1) nat_cmp)
-
--- the names of the principals, and the pairs of their numbers
+-- the names of the principals, and the pairs of their numbers, which ascend by their first number, then by their second
 unfoldable pub hierarchy : ByteFormat PrincipalHierarchy
 hierarchy =
     Named (λ fields. record { names = fields.0; pairs = fields.1 }) (λ h. (h.names, h.pairs))
     (Then (Counted (λ count. nat_le count MAX_PRINCIPALS) (name_after (λ _. false)))
-    (λ names. ascending pair_cmp (Then (number_below (length names)) (λ _. number_below (length names)))))
+    (λ names. ascending (then_cmp (on (λ pair. pair.0) nat_cmp) (on (λ pair. pair.1) nat_cmp))
+    (Then (number_below (length names)) (λ _. number_below (length names)))))
 
 -- ---- exceptions and channels
 
@@ -91,15 +82,14 @@ label count = ascending policy_cmp (policy count)
 
 unfoldable pub channel_after : ℕ → (List ℕ → Bool) → List ChannelContents → ByteFormat ChannelContents
 channel_after count taken before =
-    Named (λ fields. record { direction = fields.0; name = fields.1.0; label = fields.1.1 })
-    (λ channel. (channel.direction, (channel.name, channel.label)))
+    Named (λ f. record { direction = f.0; name = f.1.0; label = f.1.1 }) (λ c. (c.direction, (c.name, c.label)))
     (Then direction (λ _. Then (name_after taken (map (λ channel. channel.name) before)) (λ _. label count)))
 
 -- the names of the declared exceptions, and the channels; all of their names and those of the built-in exceptions are different
 unfoldable pub declared : ℕ → ByteFormat (List (List ℕ) × List ChannelContents)
 declared count =
-    Then (Counted any (name_after (is_among built_in_names)))
-    (λ names. Counted any (channel_after count (λ name. is_among built_in_names name || is_among names name)))
+    Then (Counted (λ _. true) (name_after (is_among built_in_names)))
+    (λ names. Counted (λ _. true) (channel_after count (λ name. is_among built_in_names name || is_among names name)))
 
 -- ---- globals and slots
 
@@ -121,14 +111,11 @@ cells_of_size size = if size == 0 then 1 else size
 abbrev pub slot_cells : List Slot → ℕ
 slot_cells slots = sum_by (λ slot. cells_of_size (slot_fields slot).1) slots
 
--- a size is not too large, nor are the cells with it
-abbrev pub is_size : ℕ → ℕ → Bool
-is_size cells size = nat_le size MAX_ELEMENTS && nat_le (cells + cells_of_size size) MAX_CELLS
-
--- a slot after this many cells, whose size passes a test too
+-- a slot after this many cells: its size is not too large, nor are the cells with it, and it passes a test too
 unfoldable pub slot_beside : ℕ → (ℕ → Bool) → ByteFormat Slot
 slot_beside cells test =
-    Named slot_of slot_fields (Then variable_kind (λ _. Checked BadValue (λ size. is_size cells size && test size) Number))
+    Named slot_of slot_fields (Then variable_kind (λ _. Checked BadValue (λ size.
+    (nat_le size MAX_ELEMENTS && nat_le (cells + cells_of_size size) MAX_CELLS) && test size) Number))
 
 -- a scalar's first value: an int, or 0 or 1 for a boolean. An array has none, where 0 stands for it
 abbrev pub first_value : Slot → ByteFormat ℕ
@@ -149,7 +136,7 @@ global_fields (global.Array kind size) = (slot.Array kind size, 0)
 
 unfoldable pub global_after : List Global → ByteFormat Global
 global_after before =
-    Named global_of global_fields (Then (slot_beside (slot_cells (map (λ global. (global_fields global).0) before)) any) first_value)
+    Named global_of global_fields (Then (slot_beside (slot_cells (map (λ global. (global_fields global).0) before)) (λ _. true)) first_value)
 
 -- ---- procedures
 
@@ -165,16 +152,14 @@ slots parameters =
 
 unfoldable pub handler : ByteFormat Handler
 handler =
-    Named (λ fields. record { start = fields.0; end = fields.1.0; exception = fields.1.1.0; target = fields.1.1.1 })
-    (λ handler. (handler.start, (handler.end, (handler.exception, handler.target))))
+    Named (λ f. record { start = f.0; end = f.1.0; exception = f.1.1.0; target = f.1.1.1 }) (λ h. (h.start, (h.end, (h.exception, h.target))))
     (Then Number (λ _. Then Number (λ _. Then Number (λ _. Number))))
 
 unfoldable pub procedure : Version → ByteFormat ProcedureContents
 procedure version =
-    Named
-    (λ fields. record { returned = fields.0; parameters = fields.1.0; slots = fields.1.1.0; code = fields.1.1.1.0; handlers = fields.1.1.1.1 })
+    Named (λ f. record { returned = f.0; parameters = f.1.0; slots = f.1.1.0; code = f.1.1.1.0; handlers = f.1.1.1.1 })
     (λ p. (p.returned, (p.parameters, (p.slots, (p.code, p.handlers)))))
-    (Then returned (λ _. Then Number (λ parameters. Then (slots parameters) (λ _. Then (Code version) (λ _. Counted any (λ _. handler))))))
+    (Then returned (λ _. Then Number (λ parameters. Then (slots parameters) (λ _. Then (Code version) (λ _. Counted (λ _. true) (λ _. handler))))))
 
 -- ---- modules
 
@@ -193,9 +178,26 @@ version = Named (λ n. if n == 1 then One else Two) version_number (Checked refu
 -- the four bytes `FLOB`, the version, the hierarchy, the exceptions and channels, the globals, the procedures, and where a run starts
 unfoldable pub module_file : ByteFormat ModuleContents
 module_file =
-    Marked Magic 0x464c4f42
-    (Named
-    (λ fields. record { version = fields.0; hierarchy = fields.1.0; exceptions = fields.1.1.0.0; channels = fields.1.1.0.1; globals = fields.1.1.1.0; procedures = fields.1.1.1.1.0; main = fields.1.1.1.1.1 })
+    Marked Magic 0x464c4f42 (Named (λ f.
+    record { version = f.0; hierarchy = f.1.0; exceptions = f.1.1.0.0; channels = f.1.1.0.1; globals = f.1.1.1.0; procedures = f.1.1.1.1.0; main = f.1.1.1.1.1 })
     (λ m. (m.version, (m.hierarchy, ((m.exceptions, m.channels), (m.globals, (m.procedures, m.main))))))
     (Then version (λ v. Then hierarchy (λ h. Then (declared (length h.names)) (λ _.
-    Then (Counted any global_after) (λ _. Then (Counted any (λ _. procedure v)) main))))))
+    Then (Counted (λ _. true) global_after) (λ _. Then (Counted (λ _. true) (λ _. procedure v)) main))))))
+
+-- ---- parts of the rules, by which proofs speak of them
+
+-- an element is above the last of those before it, if there are any
+abbrev pub is_above : {A : Type 0} → (A → A → Ordering) → List A → A → Bool
+is_above cmp before x = option_map_or (λ last. is_lt (cmp last x)) (slice_get before (length before - 1)) true
+
+-- pairs ascend by their first number, then by their second
+abbrev pub pair_cmp : ℕ × ℕ → ℕ × ℕ → Ordering
+pair_cmp = then_cmp (on (λ pair. pair.0) nat_cmp) (on (λ pair. pair.1) nat_cmp)
+
+-- a size is not too large, nor are the cells with it
+abbrev pub is_size : ℕ → ℕ → Bool
+is_size cells size = nat_le size MAX_ELEMENTS && nat_le (cells + cells_of_size size) MAX_CELLS
+
+-- any count will do
+abbrev pub any : ℕ → Bool
+any n = true

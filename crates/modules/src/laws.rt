@@ -5,14 +5,14 @@ ghost use Rattle.common.specs.declared.sent.Pair.{Pair};
 ghost use Rattle.modules.specs.Contents.{ModuleContents};
 ghost use Rattle.modules.specs.ByteFormat.{Fits, IsCoded};
 ghost use Rattle.modules.specs.Format.{module_file};
-ghost use Rattle.modules.specs.Isolated.{IsIsolated, StaysIsolated, channel_label, channel_label_under, module_view};
+ghost use Rattle.modules.specs.Isolated.{IsIsolated, StaysIsolated, ViewsAreIsolated, channel_label, channel_label_under, module_view};
 ghost use Rattle.modules.specs.Machine.{after_steps};
 ghost use Rattle.modules.specs.Opcodes.{HasCodeOf, HasSpelling, instructions};
 ghost use Rattle.modules.specs.declared.instruction.Instruction.{Instruction};
 ghost use Rattle.modules.specs.declared.version.Version.TheVariants.{Two};
 ghost use Rattle.modules.specs.declared.version.Version.{Version};
-ghost use Rattle.principals.specs.ActsFor.{IsHierarchy};
-ghost use Rattle.std.specs.Prelude.{All, List, ℕ, ℤ, ◌≡◌};
+ghost use Rattle.principals.specs.ActsFor.{IsHierarchy, PrincipalHierarchy};
+ghost use Rattle.std.specs.Prelude.{All, List, ℕ, ℤ, ◌↔◌, ◌≡◌};
 
 /// Each instruction that a version has and whose operand fits has a spelling there: its opcode is a byte, which is followed by as
 /// many bytes as its operand has, and the two spell that instruction again. No other instruction is spelled so.
@@ -48,4 +48,9 @@ pub fn labels_are_those_written()
         module_view m.hierarchy m p sent ≡ pairs_for m.hierarchy (channel_label m) p sent }
     ensures isolated { (m : ModuleContents) → Fits module_file m → StaysIsolated m →
         IsIsolated m.hierarchy m }
+{}
+
+/// A module is isolated under a hierarchy exactly where its views are.
+pub fn isolated_by_views()
+    ensures { (h : PrincipalHierarchy) (m : ModuleContents) → IsIsolated h m ↔ ViewsAreIsolated h m }
 {}

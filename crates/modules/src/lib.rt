@@ -13,16 +13,15 @@ mod message;
 pub mod module;
 pub mod opcode;
 pub mod procedure;
-pub mod value;
 pub mod version;
 
 pub use channel::Channel;
 pub use code::code_length;
+pub use common::Value as Cell;
 pub use contents::Contents;
 pub use declaration::{Global, Handler, Slot};
 pub use fault::FormatRefusalKind;
 pub use instruction::{Instruction, MachineOperator, OperatorKinds, Storage};
 pub use module::Module;
 pub use procedure::Procedure;
-pub use value::Cell;
 pub use version::Version;

@@ -4,12 +4,13 @@ use Rattle.std.proofs.Common.{◌≡◌, ℕ, zero, suc, pred, ◌+◌, ◌≤�
 use Rattle.std.specs.Prelude.{Option, None, Some, length, slice_get}
 use Rattle.std.specs.List.{All}
 use Rattle.syntax.specs.declared.tree.BinaryOperator.{BinaryOperator}
-use Rattle.syntax.specs.Form.{Form, level, only}
-use Rattle.syntax.specs.Grammar.{optional, chains, lines, others_by, others_of, grouped, name, index, integer, primary, unary, expression, variable_tree, some}
+use Rattle.parser.specs.ReadForm.{Form, level, only}
+use Rattle.syntax.specs.Grammar.{lines, grouped}
+use Rattle.parser.specs.ReadGrammar.{optional, chains, others_by, others_of, name, index, integer, primary, unary, expression, variable_tree, some}
 use Rattle.parser.specs.Parts.{arguments, chain, variable, parenthesised, signed, operand_of}
 use Rattle.syntax.specs.Nesting.{IsNestedExpression}
 use Rattle.syntax.specs.Nodes.{expression_nodes}
-use Rattle.syntax.specs.Symbol.{Expression, Arguments}
+use Rattle.parser.specs.ReadSymbol.{Expression, Arguments}
 use Rattle.syntax.specs.Tree.{NameTree, ExpressionTree, IntegerTree, TruthTree, VariableTree, ElementTree, UnaryTree, BinaryTree, expression_at}
 use Rattle.syntax.specs.Written.{IsWrittenName, IsWrittenExpression}
 use Rattle.parser.proofs.Fits.{Fit, Has, FitExpression, FitExpressions, FitOthers, AreWrittenOthers, AreNestedOthers, others_nodes, from_before, some_fit}

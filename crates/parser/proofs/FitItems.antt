@@ -4,8 +4,8 @@ use Rattle.std.specs.Prelude.{Option}
 use Rattle.std.specs.List.{All}
 use Rattle.std.proofs.lemmas.List.Elements.{All-nil}
 use Rattle.common.specs.declared.direction.Direction.{Direction}
-use Rattle.syntax.specs.Form.{Form, many, ◌·◌}
-use Rattle.syntax.specs.Grammar.{at, ◌◂◌, base, name, label, direction, constant, written_result, parameter, throws, item, program, optional, some, ◌▸◌}
+use Rattle.parser.specs.ReadForm.{Form, many, ◌·◌}
+use Rattle.parser.specs.ReadGrammar.{at, ◌◂◌, base, name, label, direction, constant, written_result, parameter, throws, item, program, optional, some, ◌▸◌}
 use Rattle.parser.specs.Parts.{procedure, global, exception, channel, global_value, negative_constant, valued, some_throws, thrown, thrown_list}
 use Rattle.syntax.specs.Nesting.{IsNestedItem, IsNested}
 use Rattle.syntax.specs.Nodes.{optional_label_nodes, written_result_nodes, parameter_nodes, thrown_nodes, item_nodes, program_nodes}

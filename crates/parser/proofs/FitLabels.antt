@@ -4,8 +4,8 @@ use Rattle.std.specs.Prelude.{Option}
 use Rattle.std.specs.List.{All}
 use Rattle.std.proofs.lemmas.List.Sums.{sum_by-cons}
 use Rattle.common.specs.declared.base_type.BaseType.{BaseType}
-use Rattle.syntax.specs.Form.{Form, ◌·◌}
-use Rattle.syntax.specs.Grammar.{at, ◌▸◌, name, component, label, base, integer, truth, size, optional, some}
+use Rattle.parser.specs.ReadForm.{Form, ◌·◌}
+use Rattle.parser.specs.ReadGrammar.{at, ◌▸◌, name, component, label, base, integer, truth, size, optional, some}
 use Rattle.parser.specs.Parts.{readers}
 use Rattle.syntax.specs.Nodes.{component_nodes, label_nodes, optional_label_nodes}
 use Rattle.syntax.specs.Tree.{NameTree, ComponentTree, component_of, LabelTree, SizeTree}

@@ -2,12 +2,12 @@
 use Prim.Native.String.{String}
 use Rattle.std.proofs.Common.{◌≡◌, ℕ, ◌+◌, ◌<◌, ◌≤◌, List, [], ◌∷◌, sym, subst, inl, inr, ⊎_elim, arith}
 use Rattle.std.specs.Prelude.{Option, None, Some}
-use Rattle.syntax.specs.Form.{Form, level, ◌·◌, ◌or◌, only, ◌gives◌}
-use Rattle.syntax.specs.Grammar.{at, ◌▸◌, ◌◂◌, base, name, index, expression, call, right, size, block, condition, catch, statement, production, optional, label}
+use Rattle.parser.specs.ReadForm.{Form, level, ◌·◌, ◌or◌, only, ◌gives◌}
+use Rattle.parser.specs.ReadGrammar.{at, ◌▸◌, ◌◂◌, base, name, index, expression, call, right, size, block, condition, catch, statement, production, optional, label}
 use Rattle.parser.specs.Parts.{arguments, operand_of, declare, declare_array, assign, assign_element, call_statement, catches, receive, send, conditional, while_statement, break_statement, continue_statement, throw_statement, return_statement, attempt, CatchTree}
 use Rattle.syntax.specs.Nesting.{IsNestedExpression, IsNestedOptionalExpression, IsNestedCall, IsNestedRight, IsNestedStatement, IsNestedBlock, AreNestedCatches}
 use Rattle.syntax.specs.Nodes.{expression_nodes, optional_expression_nodes, call_nodes, right_nodes, statement_nodes, block_nodes, catches_nodes}
-use Rattle.syntax.specs.Symbol.{Symbol, Expression, Unary, Operands, Arguments, Statements, tree_of}
+use Rattle.parser.specs.ReadSymbol.{Symbol, Expression, Unary, Operands, Arguments, Statements, tree_of}
 use Rattle.syntax.specs.Tree.{NameTree, ExpressionTree, CallTree, RightTree, StatementTree, BlockTree, BlockOf, if_tree, catches_of, NestedTree}
 use Rattle.syntax.specs.Written.{IsWrittenName, IsWrittenExpression, IsWrittenOptionalExpression, IsWrittenCall, IsWrittenRight, IsWrittenStatement, IsWrittenBlock, AreWrittenCatches}
 use Rattle.parser.proofs.Holds.{Each}

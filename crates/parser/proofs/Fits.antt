@@ -1,7 +1,6 @@
 -- Trees that fit: they are written, have no more nodes than tokens, and are nested in the room; and what a form's tokens say of
 -- its tree, form by form.
 use Prim.Native.String.{String}
-use Rattle.lexer.specs.TokenKind.{TokenKind, word_of}
 use Rattle.lexer.specs.TokenKind as token_kinds
 use Rattle.std.proofs.Common.{◌≡◌, ℕ, pred, ◌+◌, ◌≤◌, ◌<◌, List, [], ◌∷◌, sym, subst, inl, inr, sum_by, arith}
 use Rattle.std.specs.List.{All}
@@ -9,11 +8,12 @@ use Rattle.std.proofs.lemmas.List.Elements.{All-nil, All-cons}
 use Rattle.std.proofs.lemmas.List.Sums.{sum_by-cons}
 use Rattle.lexer.specs.Terminal.{Terminal}
 use Rattle.syntax.specs.declared.tree.BinaryOperator.{BinaryOperator}
-use Rattle.syntax.specs.Form.{Form}
-use Rattle.syntax.specs.Grammar.{at, ◌▸◌, ◌◂◌, separated, some, value_of}
+use Rattle.parser.specs.ReadForm.{Form}
+use Rattle.syntax.specs.Grammar.{value_of}
+use Rattle.parser.specs.ReadGrammar.{at, ◌▸◌, ◌◂◌, separated, some}
 use Rattle.syntax.specs.Nesting.{IsNestedExpression, AreNestedStatements}
 use Rattle.syntax.specs.Nodes.{expression_nodes, statements_nodes}
-use Rattle.syntax.specs.Symbol.{Expression, Unary, Operands, Arguments, Statements}
+use Rattle.parser.specs.ReadSymbol.{Expression, Unary, Operands, Arguments, Statements}
 use Rattle.syntax.specs.Tree.{ExpressionTree, StatementTree, statements_of}
 use Rattle.syntax.specs.Written.{IsWrittenExpression, AreWrittenStatements}
 use Rattle.parser.proofs.Holds.{Each, Held, Holds}

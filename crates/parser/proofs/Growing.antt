@@ -1,9 +1,9 @@
 -- Where the levels of more tokens don't count, what was spelled still is.
 use Rattle.std.proofs.Common.{◌⊎◌, ℕ, zero, suc, pred, ◌≤◌, ◌<◌, List, [], ◌∷◌, length, inl, inr, arith}
 use Rattle.lexer.specs.Terminal.{Terminal}
-use Rattle.syntax.specs.Form.{Form, give, one_of, level, ◌·◌, ◌or◌, many, ◌gives◌, Phrase, Many, means}
-use Rattle.syntax.specs.Symbol.{Symbol, tree_of}
-use Rattle.syntax.specs.Grammar.{production, within, Spelled}
+use Rattle.parser.specs.ReadForm.{Form, give, one_of, level, ◌·◌, ◌or◌, many, ◌gives◌, Phrase, Many, means}
+use Rattle.parser.specs.ReadSymbol.{Symbol, tree_of}
+use Rattle.parser.specs.ReadGrammar.{production, within, Spelled}
 use Rattle.parser.proofs.Derivations.{Inside}
 
 abbrev Grows : Inside → Type 0

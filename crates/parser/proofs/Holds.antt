@@ -5,9 +5,9 @@ use Rattle.std.specs.Prelude.{Option, Some}
 use Rattle.std.specs.List.{All}
 use Rattle.std.proofs.lemmas.List.Elements.{All-head, All-tail}
 use Rattle.lexer.specs.Terminal.{Terminal}
-use Rattle.syntax.specs.Form.{Form, give, one_of, level, ◌·◌, ◌or◌, many, ◌gives◌, Phrase, Token, Many, means}
-use Rattle.syntax.specs.Symbol.{Symbol, tree_of}
-use Rattle.syntax.specs.Grammar.{production, within, Spelled}
+use Rattle.parser.specs.ReadForm.{Form, give, one_of, level, ◌·◌, ◌or◌, many, ◌gives◌, Phrase, Token, Many, means}
+use Rattle.parser.specs.ReadSymbol.{Symbol, tree_of}
+use Rattle.parser.specs.ReadGrammar.{production, within, Spelled}
 use Rattle.parser.proofs.Derivations.{Inside}
 
 abbrev pub Each : {A : Type 0} → (A → ℕ → Type 0) → List A → ℕ → Type 0

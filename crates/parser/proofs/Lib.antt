@@ -16,8 +16,11 @@ pub mod Items
 pub mod Levels
 pub mod Lists
 pub mod Loops
+pub mod Openings
 pub mod Outcomes
+pub mod Pairs
 pub mod Parsing
+pub mod Productions
 pub mod Programs
 pub mod Refusals
 pub mod Rights

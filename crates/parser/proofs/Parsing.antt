@@ -12,7 +12,8 @@ use Rattle.common.proofs.Casting.{refused-weaker}
 use Rattle.parser.specs.Reading.{IsRead, read}
 use Rattle.parser.specs.Refusal.{AreTokensRefused}
 use Rattle.syntax.specs.declared.tree.Item.{Item}
-use Rattle.syntax.specs.Grammar.{SpellsProgram, program}
+use Rattle.syntax.specs.Grammar.{SpellsProgram}
+use Rattle.parser.specs.ReadGrammar.{program}
 use Rattle.syntax.specs.Nesting.{IsNested}
 use Rattle.syntax.specs.Nodes.{program_nodes}
 use Rattle.syntax.specs.Tree.{ProgramTree, program_tree}

@@ -1,5 +1,5 @@
 -- Refusals exclude trees and one another, and where tokens spell no tree there is one.
-use Rattle.std.proofs.Common.{◌≡◌, ◌⊎◌, List, [], ◌∷◌, ◌++◌, length, length-append, Result, Ok, Err, refl, sym, ◌∙◌, ap, subst, inl, inr, append_assoc, arith}
+use Rattle.std.proofs.Common.{◌≡◌, ◌⊎◌, ℕ, ◌≤◌, List, [], ◌∷◌, ◌++◌, length, length-append, Result, Ok, Err, refl, sym, ◌∙◌, ap, subst, inl, inr, append_assoc, arith}
 use Rattle.common.proofs.Cases.{same_heads, same_tails}
 use Rattle.lexer.specs.Terminal.{Terminal, IsTerminated}
 use Rattle.common.specs.declared.refusal.RefusalAt.{RefusalAt}
@@ -7,26 +7,33 @@ use Rattle.parser.specs.declared.fault.ParseRefusalKind.{ParseRefusalKind}
 use Rattle.parser.specs.declared.fault.ParseRefusalKind.TheVariants.{UnexpectedToken, TooDeep}
 use Rattle.parser.specs.Reading.{read}
 use Rattle.parser.specs.Refusal.{IsPrefixWithin, IsPrefixOfProgram, AreTokensRefusedFor, AreTokensRefused}
-use Rattle.syntax.specs.Grammar.{SpellsProgram, SpellsBut, program}
+use Rattle.syntax.specs.Grammar.{SpellsProgram, SpellsBut}
+use Rattle.parser.specs.ReadGrammar.{program}
 use Rattle.syntax.specs.Tree.{ProgramTree}
 use Rattle.parser.proofs.Growing.{grows}
+use Rattle.parser.proofs.Productions.{as_paired, as_spelled}
 use Rattle.parser.proofs.Programs.{Verdict, verdict}
+
+-- where the levels of more tokens don't count, what was spelled still is
+but_grows : (n m : ℕ) → n ≤ m → (tokens : List Terminal) (tree : ProgramTree) → SpellsBut n tokens tree → SpellsBut m tokens tree
+but_grows n m le tokens tree spelled =
+    as_spelled m tokens tree (grows program 64 n m le tokens tree [] (as_paired n tokens tree spelled))
 
 -- tokens in front of others that begin a program, or are one, begin one
 within_front : (front more : List Terminal) → IsPrefixWithin (front ++ more) → IsPrefixWithin front
 within_front front more (others, tree, spelled) = (
   more ++ others,
   tree,
-  subst (λ list. SpellsBut (length (more ++ others)) list tree) (append_assoc front more others) (grows program 64 (length others) (length (more ++ others)) (omega (arith, length-append more others)) ((front ++ more) ++ others) tree [] spelled),
+  subst (λ list. SpellsBut (length (more ++ others)) list tree) (append_assoc front more others) (but_grows (length others) (length (more ++ others)) (omega (arith, length-append more others)) ((front ++ more) ++ others) tree spelled),
 )
 
 within_prefix : (front : List Terminal) → IsPrefixWithin front → IsPrefixOfProgram front
 within_prefix front (more, tree, spelled) =
-    (more, tree, grows program 64 (length more) (length (front ++ more)) (omega (arith, length-append front more)) (front ++ more) tree [] spelled)
+    (more, tree, but_grows (length more) (length (front ++ more)) (omega (arith, length-append front more)) (front ++ more) tree spelled)
 
 spelled_front : (front more : List Terminal) (tree : ProgramTree) → SpellsProgram (front ++ more) tree → IsPrefixWithin front
 spelled_front front more tree spelled =
-    (more, tree, grows program 64 0 (length more) (omega arith) (front ++ more) tree [] spelled)
+    (more, tree, but_grows 0 (length more) (omega arith) (front ++ more) tree spelled)
 
 -- two tokens of a list, each with what stands before it and after it, are one, or one stands before the other
 data Order (a : List Terminal) (x : Terminal) (c : List Terminal) (y : Terminal) : Type 0 where

@@ -1,5 +1,5 @@
 -- What holds of a tree that tokens spell.
-use Rattle.lexer.specs.TokenKind.{TokenKind, word_of}
+use Rattle.lexer.specs.TokenKind.{TokenKind}
 use Rattle.lexer.specs.TokenKind as token_kinds
 use Rattle.std.proofs.Common.{ℕ, ◌-◌, ◌≤◌, List, [], length, map, get_or, ap, subst, arith}
 use Rattle.std.specs.List.{All, Contains}
@@ -12,13 +12,15 @@ use Rattle.lexer.specs.Cut.{IsCut}
 use Rattle.lexer.specs.Listing as listing
 use Rattle.lexer.specs.Listing.{IsSpelled, IsSliceOf}
 use Rattle.lexer.specs.Terminal.{Terminal}
-use Rattle.syntax.specs.Grammar.{SpellsProgram, program, value_of}
+use Rattle.syntax.specs.Grammar.{SpellsProgram, value_of}
+use Rattle.parser.specs.ReadGrammar.{program}
 use Rattle.syntax.specs.Limits.{IsOfText}
 use Rattle.syntax.specs.Nesting.{IsNested}
 use Rattle.syntax.specs.Nodes.{program_nodes}
 use Rattle.syntax.specs.Tree.{ProgramTree}
 use Rattle.syntax.specs.Written.{Anywhere, IsInteger, IsNameWithin, IsWritten}
 use Rattle.parser.proofs.Holds.{spelled_taken}
+use Rattle.parser.proofs.Productions.{as_paired}
 use Rattle.parser.proofs.Fits.{Fit, Fitting, Fits}
 use Rattle.parser.proofs.FitStatements.{symbols_fit}
 use Rattle.parser.proofs.FitItems.{program_fits}
@@ -29,7 +31,7 @@ IsShort longest token = length token.text ≤ longest
 
 pub spelled_fits : (fits : ℕ → Type 0) (word : List ℕ → Type 0) (number : ℕ → Type 0) (tokens : List Terminal) (tree : ProgramTree) → SpellsProgram tokens tree → All (Fitting fits word number) tokens → Fit (IsWritten fits word number tree) (program_nodes tree) (IsNested 64 tree) (length tokens)
 spelled_fits fits word number tokens tree spelled all =
-    let taken = spelled_taken (Fitting fits word number) (Fits fits word number) (symbols_fit fits word number) program 64 tokens tree [] spelled all in
+    let taken = spelled_taken (Fitting fits word number) (Fits fits word number) (symbols_fit fits word number) program 64 tokens tree [] (as_paired 0 tokens tree spelled) all in
     let fit = program_fits fits word number 64 tree taken.count taken.holds in
     record { written = fit.written; few = omega (arith, fit.few, taken.length_is); nested = fit.nested }
 

@@ -3,8 +3,8 @@
 -- Source: left factoring.
 use Rattle.std.specs.Prelude.{ℕ, List, Option}
 use Rattle.common.specs.declared.base_type.BaseType.{BaseType}
-use Rattle.syntax.specs.Form.{Form, ◌·◌, ◌or◌, ◌gives◌}
-use Rattle.syntax.specs.Grammar.{◌▸◌, ◌◂◌, base, label, name, size, index, expression, optional, block}
+use Rattle.parser.specs.ReadForm.{Form, ◌·◌, ◌or◌, ◌gives◌}
+use Rattle.parser.specs.ReadGrammar.{◌▸◌, ◌◂◌, base, label, name, size, index, expression, optional, block}
 use Rattle.parser.specs.Parts.{arguments, receive, send, conditional, while_statement, break_statement, continue_statement, throw_statement, return_statement, attempt}
 use Rattle.syntax.specs.Tree.{NameTree, LabelTree, ExpressionTree, RightTree, SizeTree, StatementTree, DeclareTree, DeclareArrayTree, AssignTree, AssignElementTree, CallTree', NestedTree}
 

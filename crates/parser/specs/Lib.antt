@@ -9,3 +9,6 @@ pub mod Factored
 pub mod Parts
 pub mod Reading
 pub mod Refusal
+pub mod ReadForm
+pub mod ReadGrammar
+pub mod ReadSymbol

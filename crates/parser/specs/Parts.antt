@@ -4,9 +4,10 @@
 use Rattle.std.specs.Prelude.{ℕ, List, [], ◌∷◌, slice_get, Option, Some, unwrap_or, true}
 use Rattle.syntax.specs.declared.tree.BinaryOperator.{BinaryOperator}
 use Rattle.common.specs.declared.operator.Prefix.{Prefix}
-use Rattle.syntax.specs.Form.{Form, level, ◌·◌, ◌or◌, many, ◌gives◌, only, table}
-use Rattle.syntax.specs.Grammar.{at, ◌▸◌, ◌◂◌, optional, separated, some, name, label, base, signs, integer, index, variable_tree, grouped, others_of, chains, lines, unary, expression, call, right, size, block, condition, catch, direction, constant, written_result, parameter, throws}
-use Rattle.syntax.specs.Symbol.{Expression, Unary, Arguments}
+use Rattle.parser.specs.ReadForm.{Form, level, ◌·◌, ◌or◌, many, ◌gives◌, only, table}
+use Rattle.syntax.specs.Grammar.{signs, grouped, lines}
+use Rattle.parser.specs.ReadGrammar.{at, ◌▸◌, ◌◂◌, optional, separated, some, name, label, base, integer, index, variable_tree, others_of, chains, unary, expression, call, right, size, block, condition, catch, direction, constant, written_result, parameter, throws}
+use Rattle.parser.specs.ReadSymbol.{Expression, Unary, Arguments}
 use Rattle.syntax.specs.Tree.{NameTree, ExpressionTree, UnaryTree, StatementTree, DeclareTree, DeclareArrayTree, AssignTree, AssignElementTree, CallTree', ReceiveTree, SendTree, if_tree, WhileTree, BreakTree, ContinueTree, ThrowTree, ReturnTree, TryTree, BlockTree, catches_of, ItemTree, ChannelItem, ExceptionItem, GlobalItem, ProcedureItem, ConstantTree, IntegerConstant, GlobalValueTree, ScalarTree, ArrayTree, WrittenResultTree, ThrownTree}
 
 -- of labels

@@ -1,7 +1,7 @@
 ghost use Rattle.std.specs.Prelude.{◌≡◌, ℕ, map};
 ghost use Rattle.lexer.specs.Terminal.{terminals_of};
-ghost use Rattle.syntax.specs.Form.{many, ◌·◌, ◌gives◌};
-ghost use Rattle.syntax.specs.Grammar.{constant, written_result, parameter, throws, direction, item, label, separated, ◌▸◌, optional, some};
+ghost use Rattle.parser.specs.ReadForm.{many, ◌·◌, ◌gives◌};
+ghost use Rattle.parser.specs.ReadGrammar.{constant, written_result, parameter, throws, direction, item, label, separated, ◌▸◌, optional, some};
 ghost use Rattle.parser.specs.Parts.{procedure, global, exception, channel, global_value, thrown, negative_constant, some_throws, valued, thrown_list};
 ghost use Rattle.syntax.specs.Tree.{ParameterTree, ThrownTree, label_tree, optional_label_tree, constant_tree, global_value_tree, written_result_tree, parameter_tree, thrown_tree, item_tree};
 ghost use Rattle.parser.specs.Reading.{IsRead, read, kind_at, begins_item};
@@ -184,7 +184,7 @@ impl<'t, 'a> Parser<'t, 'a> {
         }
     }
 
-    #[tactic(auto, unfolding(syntax::specs::Grammar::parameter, crate::specs::Reading::read))]
+    #[tactic(auto, unfolding(crate::specs::ReadGrammar::parameter, crate::specs::Reading::read))]
     fn parse_parameter(&mut self) -> Result<Parameter<'a>, ParseFault>
         ensures { (room : ℕ) → IsRead parameter_tree result self.new.rest.now
             (read room parameter (terminals_of self.old.rest.now)) }

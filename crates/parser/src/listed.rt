@@ -2,8 +2,8 @@
 ghost use Rattle.std.specs.Prelude.{◌≡◌, ℕ, [], map};
 ghost use Rattle.lexer.specs.Terminal.{terminals_of};
 ghost use Rattle.lexer.specs.KindOf.{text_of};
-ghost use Rattle.syntax.specs.Form.{Form};
-ghost use Rattle.syntax.specs.Grammar.{separated, ◌▸◌};
+ghost use Rattle.parser.specs.ReadForm.{Form};
+ghost use Rattle.parser.specs.ReadGrammar.{separated, ◌▸◌};
 ghost use Rattle.parser.specs.Reading.{IsNoInteger, IsRead, read};
 
 use crate::cursor::Parser;

@@ -2,7 +2,8 @@ ghost use Rattle.common.specs.Answers.{Answers, IfRefused};
 ghost use Rattle.common.specs.declared.refusal.RefusalAt.{RefusalAt};
 ghost use Rattle.std.specs.Prelude.{◌≡◌, ◌≤◌, length, IfErr, IfOk};
 ghost use Rattle.lexer.specs.Terminal.{IsTerminated, terminals_of};
-ghost use Rattle.syntax.specs.Grammar.{SpellsProgram, program};
+ghost use Rattle.syntax.specs.Grammar.{SpellsProgram};
+ghost use Rattle.parser.specs.ReadGrammar.{program};
 ghost use Rattle.syntax.specs.Laws.{SpellsOneTree, SpelledIsTerminated, SpelledHasFewNodes, SpelledIsNested, SpelledIsWritten, EachIsThere};
 ghost use Rattle.syntax.specs.Nodes.{program_nodes};
 ghost use Rattle.syntax.specs.Tree.{ProgramTree, program_tree};
@@ -21,7 +22,7 @@ use syntax::{Item, Program};
 
 impl<'t, 'a> Parser<'t, 'a> {
     /// The items of a program, up to the end marker.
-    #[tactic(auto, unfolding(syntax::specs::Grammar::program, crate::specs::Reading::read))]
+    #[tactic(auto, unfolding(crate::specs::ReadGrammar::program, crate::specs::Reading::read))]
     fn parse_program(&mut self) -> Result<Vec<Item<'a>>, ParseFault>
         ensures { IsRead (λ list. program_tree list.items) result self.new.rest.now
             (read MAX_LEVELS program (terminals_of self.old.rest.now)) }

@@ -1,8 +1,8 @@
 ghost use Rattle.std.specs.Prelude.{◌≡◌, ◌<◌, ◌++◌, ◌∷◌, [], ℕ, IsErr, OnOk, map};
 ghost use Rattle.std.specs.Vec.{vec_capacity, vec_len};
 ghost use Rattle.lexer.specs.Terminal.{terminals_of};
-ghost use Rattle.syntax.specs.Form.{many, ◌·◌, ◌gives◌};
-ghost use Rattle.syntax.specs.Grammar.{expression, integer, condition, size, block, catch, index, separated, ◌▸◌, ◌◂◌, optional, some};
+ghost use Rattle.parser.specs.ReadForm.{many, ◌·◌, ◌gives◌};
+ghost use Rattle.parser.specs.ReadGrammar.{expression, integer, condition, size, block, catch, index, separated, ◌▸◌, ◌◂◌, optional, some};
 ghost use Rattle.parser.specs.Parts.{arguments, receive, send, conditional, while_statement, break_statement, continue_statement, throw_statement, return_statement, attempt, catches};
 ghost use Rattle.syntax.specs.Tree.{name_tree, expression_tree, optional_expression_tree, right_tree, size_tree, statement_tree, block_tree, optional_block_tree, catch_tree, NestedTree};
 ghost use Rattle.parser.specs.Factored.{AtIndexTree};
@@ -108,7 +108,7 @@ impl<'t, 'a> Parser<'t, 'a> {
         Ok(self.arena.try_alloc_slice_copy(expressions.as_slice())?)
     }
 
-    #[tactic(auto, unfolding(syntax::specs::Grammar::condition, crate::specs::Reading::read))]
+    #[tactic(auto, unfolding(crate::specs::ReadGrammar::condition, crate::specs::Reading::read))]
     fn parse_condition(&mut self, room: u32) -> Result<Expression<'a>, ParseFault>
         ensures { IsRead expression_tree result self.new.rest.now
             (read room condition (terminals_of self.old.rest.now)) }
@@ -331,7 +331,7 @@ impl<'t, 'a> Parser<'t, 'a> {
     }
 
     #[cycle(statement)]
-    #[tactic(auto, unfolding(syntax::specs::Grammar::catch, crate::specs::Reading::read))]
+    #[tactic(auto, unfolding(crate::specs::ReadGrammar::catch, crate::specs::Reading::read))]
     fn parse_catch(&mut self, room: u32) -> Result<Catch<'a>, ParseFault>
         ensures { IsRead catch_tree result self.new.rest.now
             (read room catch (terminals_of self.old.rest.now)) }
@@ -423,7 +423,7 @@ impl<'t, 'a> Parser<'t, 'a> {
         }
     }
 
-    #[tactic(auto, unfolding(syntax::specs::Grammar::size, crate::specs::Reading::read))]
+    #[tactic(auto, unfolding(crate::specs::ReadGrammar::size, crate::specs::Reading::read))]
     pub fn parse_size(&mut self) -> Result<Size, ParseFault>
         ensures { (room : ℕ) → IsRead size_tree result self.new.rest.now
             (read room size (terminals_of self.old.rest.now)) }

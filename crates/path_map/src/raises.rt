@@ -14,8 +14,8 @@ use crate::exits::Raised;
 use crate::members::ExceptionSet;
 use common::exceptions::{ARITH, BOUNDS};
 use common::limits::MAX_INTEGER;
-use common::{Arithmetic, Prefix};
-use resolved::expression::{Expression, Operator};
+use common::{Arithmetic, Operator, Prefix};
+use resolved::expression::Expression;
 use std::alloc::AllocError;
 
 /// Whether an expression, or one of several, can raise `Arith` and `Bounds`. It can raise no other exception.

@@ -1,5 +1,5 @@
 -- The states of the reader and the grammar of the text: what a run reads is what the grammar derives.
-use Rattle.std.proofs.Common.{◌≡◌, ◌≢◌, ℕ, Bool, true, false, List, [], ◌∷◌, ◌++◌, Option, None, Some, refl, sym, ap, ◌∙◌, subst, ⊎_elim, append_assoc, append-nil}
+use Rattle.std.proofs.Common.{◌≡◌, ◌≢◌, ℕ, Bool, true, false, List, [], ◌∷◌, ◌++◌, Option, None, Some, refl, sym, ap, ◌∙◌, subst, ◌⊎◌, inl, inr, ⊎_elim, append_assoc, append-nil}
 use Rattle.std.specs.Prelude.{bytes_eq, codes, option_map, cond}
 use Rattle.std.specs.Option.{option_and_then}
 use Rattle.std.proofs.lemmas.Bool.{false≢true, false_from_ne_true}
@@ -13,10 +13,11 @@ use Rattle.lexer.specs.TokenKind as token
 use Rattle.lexer.specs.TokenKind.{word_of}
 use Rattle.lexer.specs.declared.token.Kind.{Kind}
 use Rattle.lexer.specs.declared.token.Kind.TheVariants as kind
-use Rattle.principals.specs.HierarchyText.{Entry, Declares, Relates, IsWord, IsPrincipalName, Nonterminal, Items, Names, Derives, Finish, Declaration, PrincipalRelation, OneMore, Last, IsPrefixOfForm}
+use Rattle.principals.specs.HierarchyText as form
+use Rattle.principals.specs.HierarchyText.{Entry, Declares, Relates, IsWord, IsPrincipalName, Derives, IsPrefixOfForm}
 use Rattle.principals.specs.declared.reading.TokenRole.{TokenRole}
 use Rattle.principals.specs.declared.reading.TokenRole.TheVariants.{Principal, ActsFor, Name, Comma, Semicolon, End}
-use Rattle.principals.specs.Reading.{role_by, role_of, ReadingState, Fresh, Declaring, Listed, Subject, Verb, Complete, Ended, next_by, next, finished_entries, run}
+use Rattle.principals.specs.Reading.{Nonterminal, Items, Names, DerivesFrom, Finish, Declaration, PrincipalRelation, OneMore, Last, IsHierarchyForm, role_by, role_of, ReadingState, Fresh, Declaring, Listed, Subject, Verb, Complete, Ended, next_by, next, finished_entries, run}
 
 -- ---- what a token is
 
@@ -87,7 +88,7 @@ role_is_acts_for t h = let parts = by_acts_for (code_of t.kind) t.text h in (cod
 role_is_name : (t : Terminal) → role_of t ≡ Name → IsPrincipalName t
 role_is_name t h =
     let parts = by_name (code_of t.kind) t.text h in
-    record { name = coded_kind t.kind kind.Name parts.0; not_principal = parts.1; not_acts_for = parts.2 }
+    (coded_kind t.kind kind.Name parts.0, parts.1, parts.2)
 
 word_role : (t : Terminal) → IsWord (codes "principal") t → role_of t ≡ Principal
 word_role t h = λ i. role_by (code_of (h.0 i)) (h.1 i)
@@ -97,9 +98,9 @@ verb_role t h = λ i. role_by (code_of (h.0 i)) (h.1 i)
 
 name_role : (t : Terminal) → IsPrincipalName t → role_of t ≡ Name
 name_role t h =
-    let not_first : bytes_eq t.text (codes "principal") ≡ false = false_from_ne_true _ (λ e. h.not_principal ((bytes_eq-Decides t.text (codes "principal")).0 e)) in
-    let not_second : bytes_eq t.text (codes "actsfor") ≡ false = false_from_ne_true _ (λ e. h.not_acts_for ((bytes_eq-Decides t.text (codes "actsfor")).0 e)) in
-    ap (λ k. role_by (code_of k) t.text) h.name ∙ (λ i. cond (not_first i) Principal (cond (not_second i) ActsFor Name))
+    let not_first : bytes_eq t.text (codes "principal") ≡ false = false_from_ne_true _ (λ e. h.1 ((bytes_eq-Decides t.text (codes "principal")).0 e)) in
+    let not_second : bytes_eq t.text (codes "actsfor") ≡ false = false_from_ne_true _ (λ e. h.2 ((bytes_eq-Decides t.text (codes "actsfor")).0 e)) in
+    ap (λ k. role_by (code_of k) t.text) h.0 ∙ (λ i. cond (not_first i) Principal (cond (not_second i) ActsFor Name))
 
 kind_role : (t : Terminal) (k : Kind) (r : TokenRole) → ((text : List ℕ) → role_by k text ≡ r) → code_of t.kind ≡ k → role_of t ≡ r
 kind_role t k r by e = ap (λ x. role_by x t.text) e ∙ by t.text
@@ -164,6 +165,42 @@ run-stop s front t rest end es h k =
     run-append s front (t ∷ rest) ∙ ap (then_run (t ∷ rest)) h
     ∙ ap (λ o. onto es (option_and_then (λ x. onto (finished_entries end t) (run x rest)) o)) k
 
+-- ---- nonterminals in place of signs
+
+no_comma : {P : Type 0} → codes ";" ≡ codes "," → P
+no_comma e = absurd cc
+
+-- after `;` stand items, and after `,` names
+from_sign : {sign : List ℕ} {tokens : List Terminal} {entries : List Entry} → Derives sign tokens entries
+    → ((sign ≡ codes ";") × DerivesFrom Items tokens entries) ⊎ ((sign ≡ codes ",") × DerivesFrom Names tokens entries)
+from_sign (form.Finish end h) = inl (refl, Finish end h)
+from_sign (form.Declaration word rest entries h d) = elim (from_sign d) [
+  | inl items ↦ no_comma (sym items.0)
+  | inr names ↦ inl (refl, Declaration word rest entries h names.1)
+]
+from_sign (form.DeclaredName name sign rest entries n d) = elim (from_sign d) [
+  | inl items ↦ inr (refl, Last name sign rest entries n items.0 items.1)
+  | inr names ↦ inr (refl, OneMore name sign rest entries n names.0 names.1)
+]
+from_sign (form.PrincipalRelation left word right sign rest entries l w r s d) = elim (from_sign d) [
+  | inl items ↦ inl (refl, PrincipalRelation left word right sign rest entries l w r s items.1)
+  | inr names ↦ no_comma names.0
+]
+
+pub to_items : {tokens : List Terminal} {entries : List Entry} → IsHierarchyForm tokens entries → DerivesFrom Items tokens entries
+to_items d = elim (from_sign d) [ inl items ↦ items.1 | inr names ↦ no_comma names.0 ]
+
+abbrev sign_of : Nonterminal → List ℕ
+sign_of Items = codes ";"
+sign_of Names = codes ","
+
+pub to_sign : {n : Nonterminal} {tokens : List Terminal} {entries : List Entry} → DerivesFrom n tokens entries → Derives (sign_of n) tokens entries
+to_sign (Finish end h) = form.Finish end h
+to_sign (Declaration word rest entries h d) = form.Declaration word rest entries h (to_sign d)
+to_sign (PrincipalRelation left word right semicolon rest entries l w r s d) = form.PrincipalRelation left word right semicolon rest entries l w r s (to_sign d)
+to_sign (OneMore name comma rest entries n c d) = form.DeclaredName name comma rest entries n (subst (λ sign. Derives sign rest entries) (sym c) (to_sign d))
+to_sign (Last name semicolon rest entries n s d) = form.DeclaredName name semicolon rest entries n (subst (λ sign. Derives sign rest entries) (sym s) (to_sign d))
+
 -- ---- what the grammar derives is read
 
 -- where a nonterminal is expected
@@ -178,34 +215,37 @@ one s t r after rest es role step h =
     let e : next s t ≡ Some after = ap (λ x. next_by s x t) role ∙ step in
     ap (λ o. option_and_then (λ x. onto (finished_entries s t) (run x rest)) o) e ∙ ap (onto (finished_entries s t)) h
 
-pub derived_is_read : {n : Nonterminal} {tokens : List Terminal} {entries : List Entry} → Derives n tokens entries → run (at_start n) tokens ≡ Some (Ended, entries)
-derived_is_read (Finish end h) = one Fresh end End Ended [] [] (kind_role end kind.End End (λ _. refl) (ap code_of h)) refl refl
-derived_is_read (Declaration word rest entries h d) =
-    one Fresh word Principal Declaring rest entries (word_role word h) refl (derived_is_read d)
-derived_is_read (PrincipalRelation left word right semicolon rest entries l w r s d) =
+items_are_read : {n : Nonterminal} {tokens : List Terminal} {entries : List Entry} → DerivesFrom n tokens entries → run (at_start n) tokens ≡ Some (Ended, entries)
+items_are_read (Finish end h) = one Fresh end End Ended [] [] (kind_role end kind.End End (λ _. refl) (ap code_of h)) refl refl
+items_are_read (Declaration word rest entries h d) =
+    one Fresh word Principal Declaring rest entries (word_role word h) refl (items_are_read d)
+items_are_read (PrincipalRelation left word right semicolon rest entries l w r s d) =
     one Fresh left Name (Subject left) (word ∷ right ∷ semicolon ∷ rest) (Relates left right ∷ entries) (name_role left l) refl
     (one (Subject left) word ActsFor (Verb left) (right ∷ semicolon ∷ rest) (Relates left right ∷ entries) (verb_role word w) refl
     (one (Verb left) right Name Complete (semicolon ∷ rest) entries (name_role right r) refl
-    (one Complete semicolon Semicolon Fresh rest entries (kind_role semicolon kind.Semicolon Semicolon (λ _. refl) (semicolon_code semicolon s)) refl (derived_is_read d))))
-derived_is_read (OneMore name comma rest entries n c d) =
+    (one Complete semicolon Semicolon Fresh rest entries (kind_role semicolon kind.Semicolon Semicolon (λ _. refl) (semicolon_code semicolon s)) refl (items_are_read d))))
+items_are_read (OneMore name comma rest entries n c d) =
     one Declaring name Name Listed (comma ∷ rest) entries (name_role name n) refl
-    (one Listed comma Comma Declaring rest entries (kind_role comma kind.Comma Comma (λ _. refl) (comma_code comma c)) refl (derived_is_read d))
-derived_is_read (Last name semicolon rest entries n s d) =
+    (one Listed comma Comma Declaring rest entries (kind_role comma kind.Comma Comma (λ _. refl) (comma_code comma c)) refl (items_are_read d))
+items_are_read (Last name semicolon rest entries n s d) =
     one Declaring name Name Listed (semicolon ∷ rest) entries (name_role name n) refl
-    (one Listed semicolon Semicolon Fresh rest entries (kind_role semicolon kind.Semicolon Semicolon (λ _. refl) (semicolon_code semicolon s)) refl (derived_is_read d))
+    (one Listed semicolon Semicolon Fresh rest entries (kind_role semicolon kind.Semicolon Semicolon (λ _. refl) (semicolon_code semicolon s)) refl (items_are_read d))
+
+pub derived_is_read : {tokens : List Terminal} {entries : List Entry} → IsHierarchyForm tokens entries → run Fresh tokens ≡ Some (Ended, entries)
+derived_is_read d = items_are_read (to_items d)
 
 -- ---- what is read is derived
 
 -- what the grammar derives from a state on, with the tokens of the open item in front of it
 abbrev Open : ReadingState → List Terminal → List Entry → Type 0
-Open Fresh tokens entries = Derives Items tokens entries
-Open Declaring tokens entries = Derives Names tokens entries
-Open Listed tokens entries = (name : Terminal) → IsPrincipalName name → Derives Names (name ∷ tokens) (Declares name ∷ entries)
-Open (Subject left) tokens entries = IsPrincipalName left → Derives Items (left ∷ tokens) entries
-Open (Verb left) tokens entries = (word : Terminal) → IsPrincipalName left → IsWord (codes "actsfor") word → Derives Items (left ∷ word ∷ tokens) entries
+Open Fresh tokens entries = DerivesFrom Items tokens entries
+Open Declaring tokens entries = DerivesFrom Names tokens entries
+Open Listed tokens entries = (name : Terminal) → IsPrincipalName name → DerivesFrom Names (name ∷ tokens) (Declares name ∷ entries)
+Open (Subject left) tokens entries = IsPrincipalName left → DerivesFrom Items (left ∷ tokens) entries
+Open (Verb left) tokens entries = (word : Terminal) → IsPrincipalName left → IsWord (codes "actsfor") word → DerivesFrom Items (left ∷ word ∷ tokens) entries
 Open Complete tokens entries = (left word right : Terminal) → IsPrincipalName left → IsWord (codes "actsfor") word → IsPrincipalName right →
-    Derives Items (left ∷ word ∷ right ∷ tokens) (Relates left right ∷ entries)
-Open Ended tokens entries = (end : Terminal) → end.kind ≡ token.End → Derives Items (end ∷ tokens) entries
+    DerivesFrom Items (left ∷ word ∷ right ∷ tokens) (Relates left right ∷ entries)
+Open Ended tokens entries = (end : Terminal) → end.kind ≡ token.End → DerivesFrom Items (end ∷ tokens) entries
 
 none : {P : Type 0} (s : ReadingState) → None ≡ Some s → P
 none s h = absurd (none-some s h)
@@ -228,7 +268,7 @@ open_step Complete t Semicolon after rest es role h o =
 open_step _ t _ after rest es role h o = none after h
 
 -- a run to the end reads what is open from its state on
-pub read_is_open : (tokens : List Terminal) (s : ReadingState) (es : List Entry) → run s tokens ≡ Some (Ended, es) → Open s tokens es
+read_is_open : (tokens : List Terminal) (s : ReadingState) (es : List Entry) → run s tokens ≡ Some (Ended, es) → Open s tokens es
 read_is_open [] s es h =
     let parts = some_pair_parts s Ended [] es h in
     subst (λ x. Open x [] es) (sym parts.0) (subst (λ x. Open Ended [] x) parts.1 (λ end k. Finish end k))
@@ -247,6 +287,9 @@ read_is_open (t ∷ rest) s es h =
       | Some after ↦ λ k g. on_end after k (run after rest) refl g
     ] in
     on_step (next s t) refl h
+
+pub read_is_form : (tokens : List Terminal) (es : List Entry) → run Fresh tokens ≡ Some (Ended, es) → IsHierarchyForm tokens es
+read_is_form tokens es h = to_sign (read_is_open tokens Fresh es h)
 
 -- ---- fronts of texts of the form
 
@@ -278,7 +321,7 @@ is_prefix front s es h =
     let end = live s in (
       end.0,
       es ++ end.1,
-      read_is_open (front ++ end.0) Fresh (es ++ end.1)
+      read_is_form (front ++ end.0) (es ++ end.1)
           (run-append Fresh front end.0 ∙ ap (then_run end.0) h ∙ ap (onto es) end.2),
     )
 

@@ -11,8 +11,9 @@ use Rattle.lexer.specs.Cut.{IsCut}
 use Rattle.lexer.specs.Terminal.{Terminal}
 use Rattle.lexer.proofs.Listed.{listed, refused_at}
 use Rattle.principals.specs.ActsFor.{PrincipalHierarchy, number_of}
-use Rattle.principals.specs.HierarchyText.{Entry, Declares, Relates, Nonterminal, Derives, Finish, Declaration, PrincipalRelation, OneMore, Last, with_entry, HasEntries, IsRefusedText, Long, Tokenless, Formless, Wrong, IsUnexpectedInHierarchyAt, HasBoundary}
-use Rattle.principals.specs.Reading.{IsFirstRefusal}
+use Rattle.principals.proofs.Automaton.{to_items}
+use Rattle.principals.specs.HierarchyText.{Entry, Declares, Relates, with_entry, HasEntries, IsRefusedText, Long, Tokenless, Formless, Formed, IsUnexpectedInHierarchyAt, HasBoundary}
+use Rattle.principals.specs.Reading.{Nonterminal, DerivesFrom, Finish, Declaration, PrincipalRelation, OneMore, Last, IsFirstRefusal}
 use Rattle.common.specs.declared.refusal.RefusalAt.{RefusalAt}
 use Rattle.principals.specs.declared.fault.HierarchyRefusalKind.{HierarchyRefusalKind}
 use Rattle.principals.proofs.Building.{declares, relates, same_Err, no_answer}
@@ -31,7 +32,7 @@ abbrev EntryStartsIn : List ℕ → Entry → Type 0
 EntryStartsIn source (Declares name) = StartsIn source name
 EntryStartsIn source (Relates left right) = StartsIn source left × StartsIn source right
 
-entry_spots : (source : List ℕ) {n : Nonterminal} {tokens : List Terminal} {entries : List Entry} → Derives n tokens entries →
+entry_spots : (source : List ℕ) {n : Nonterminal} {tokens : List Terminal} {entries : List Entry} → DerivesFrom n tokens entries →
     AllByRecursion (StartsIn source) tokens → AllByRecursion (EntryStartsIn source) entries
 entry_spots source (Finish end h) spots = tt
 entry_spots source (Declaration word rest entries h d) spots = entry_spots source d spots.1
@@ -79,7 +80,7 @@ walk_spot text h (entry ∷ es) f spots stops =
 
 wrong_spot : (text : List ℕ) (f : RefusalAt HierarchyRefusalKind) (es : List Entry) → IsUtf8 text → HasEntries text es → IsFirstRefusal es f → HasBoundary text f
 wrong_spot text f es ok has_entries first =
-    walk_spot text _ es f (entry_spots text has_entries.form (token_spots text has_entries.tokens ok has_entries.cut)) first
+    walk_spot text _ es f (entry_spots text (to_items has_entries.form) (token_spots text has_entries.tokens ok has_entries.cut)) first
 
 token_spot : (text : List ℕ) (tokens : List Terminal) (at : ℕ) → IsUtf8 text → IsCut text tokens → IsUnexpectedInHierarchyAt tokens at → IsCharBoundary text at
 token_spot text tokens at ok cut unexpected =
@@ -92,4 +93,4 @@ pub refused_spot : (text : List ℕ) → IsUtf8 text → (f : RefusalAt Hierarch
 refused_spot text ok _ (Long long) = IsCharBoundary-start text ok
 refused_spot text ok _ (Tokenless r fits refused) = refused_at text r ok refused
 refused_spot text ok _ (Formless tokens at fits cut unexpected) = token_spot text tokens at ok cut unexpected
-refused_spot text ok f (Wrong es _ has_entries first) = wrong_spot text f es ok has_entries first
+refused_spot text ok f (Formed tokens es _ fits cut form first) = wrong_spot text f es ok (record { fits = fits; tokens = tokens; cut = cut; form = form }) first

@@ -7,13 +7,13 @@ use Rattle.lexer.specs.Terminal.{Terminal, IsTerminated}
 use Rattle.lexer.proofs.Listed.{listed}
 use Rattle.lexer.proofs.Total.{is_cut_or_refused}
 use Rattle.principals.specs.ActsFor.{PrincipalHierarchy, IsHierarchy}
-use Rattle.principals.specs.HierarchyText.{Entry, built, IsUnexpectedInHierarchyAt, HasEntries, IsHierarchyOf, IsRefusedText, Long, Tokenless, Formless, Wrong, refusal_for}
+use Rattle.principals.specs.HierarchyText.{Entry, built, IsUnexpectedInHierarchyAt, IsHierarchyOf, IsRefusedText, Long, Tokenless, Formless, Formed, refusal_for}
 use Rattle.principals.specs.Laws.{HasOneHierarchy, IsReadOrRefused}
 use Rattle.principals.specs.Reading.{ReadingState, Fresh, Ended, next, run, finished_entries, IsHierarchyForm, IsBuilt}
 use Rattle.common.specs.declared.refusal.RefusalAt.{RefusalAt}
 use Rattle.principals.specs.declared.fault.HierarchyRefusalKind.{HierarchyRefusalKind}
 use Rattle.principals.specs.declared.fault.HierarchyRefusalKind.TheVariants as kind
-use Rattle.principals.proofs.Automaton.{run-push, read_is_open, is_prefix, stops, run_ends}
+use Rattle.principals.proofs.Automaton.{run-push, read_is_form, is_prefix, stops, run_ends}
 use Rattle.principals.proofs.Building.{built_kept}
 use Rattle.principals.proofs.Uniqueness.{hierarchy_once}
 use Rattle.common.specs.declared.limits.TheConstants.{MAX_TEXT}
@@ -25,22 +25,22 @@ described_is_hierarchy es h is = built_kept es h is
 
 -- ---- the form
 
-abbrev Formed : List Terminal → Type 0
-Formed tokens = ((es : List Entry) × IsHierarchyForm tokens es) ⊎ ((at : ℕ) × IsUnexpectedInHierarchyAt tokens at)
+abbrev IsOfForm : List Terminal → Type 0
+IsOfForm tokens = ((es : List Entry) × IsHierarchyForm tokens es) ⊎ ((at : ℕ) × IsUnexpectedInHierarchyAt tokens at)
 
-walk : (before rest : List Terminal) (s : ReadingState) (es : List Entry) → IsTerminated (before ++ rest) → run Fresh before ≡ Some (s, es) → Formed (before ++ rest)
+walk : (before rest : List Terminal) (s : ReadingState) (es : List Entry) → IsTerminated (before ++ rest) → run Fresh before ≡ Some (s, es) → IsOfForm (before ++ rest)
 walk before [] s es terminated h =
     let whole : run Fresh (before ++ []) ≡ Some (s, es) = ap (run Fresh) (append-nil before) ∙ h in
     let ended : s ≡ Ended = run_ends (before ++ []) Fresh s es terminated whole in
-    inl (es, read_is_open (before ++ []) Fresh es (whole ∙ ap (λ x. Some (x, es)) ended))
+    inl (es, read_is_form (before ++ []) es (whole ∙ ap (λ x. Some (x, es)) ended))
 walk before (t ∷ rest) s es terminated h =
     by (next s t) refl
-    (λ after e. subst Formed (append_assoc before (t ∷ []) rest)
+    (λ after e. subst IsOfForm (append_assoc before (t ∷ []) rest)
     (walk (before ++ t ∷ []) rest after (es ++ finished_entries s t)
     (subst IsTerminated (sym (append_assoc before (t ∷ []) rest)) terminated)
     (run-push Fresh before t s after es h e)))
   where
-    by : (o : Option ReadingState) → next s t ≡ o → ((after : ReadingState) → next s t ≡ Some after → Formed (before ++ t ∷ rest)) → Formed (before ++ t ∷ rest)
+    by : (o : Option ReadingState) → next s t ≡ o → ((after : ReadingState) → next s t ≡ Some after → IsOfForm (before ++ t ∷ rest)) → IsOfForm (before ++ t ∷ rest)
     by None e on =
         inr (
           t.start,
@@ -56,7 +56,7 @@ walk before (t ∷ rest) s es terminated h =
         )
     by (Some after) e on = on after e
 
-form_outcome : (tokens : List Terminal) → IsTerminated tokens → Formed tokens
+form_outcome : (tokens : List Terminal) → IsTerminated tokens → IsOfForm tokens
 form_outcome tokens terminated = walk [] tokens Fresh [] terminated refl
 
 -- ---- the text
@@ -68,11 +68,10 @@ lexed : (text : List ℕ) (tokens : List Terminal) → IsUtf8 text → length te
 lexed text tokens utf8 fits cut =
     ⊎_elim
     (λ (form : (es : List Entry) × IsHierarchyForm tokens es).
-    let has_entries : HasEntries text form.0 = record { fits = fits; tokens = tokens; cut = cut; form = form.1 } in
     let on : (o : Result PrincipalHierarchy (RefusalAt HierarchyRefusalKind)) → built form.0 ≡ o → Read text =
     λ o. elim o as (λ p. built form.0 ≡ p → Read text) [
-      | Ok h ↦ λ is. inl (h, record { entries = form.0; has_entries = has_entries; described = is })
-      | Err refusal ↦ λ is. inr (refusal, Wrong form.0 refusal has_entries is)
+      | Ok h ↦ λ is. inl (h, Formed tokens form.0 (Ok h) fits cut form.1 is)
+      | Err refusal ↦ λ is. inr (refusal, Formed tokens form.0 (Err refusal) fits cut form.1 is)
     ] in
     on (built form.0) refl)
     (λ (at : (byte : ℕ) × IsUnexpectedInHierarchyAt tokens byte). inr (refusal_for kind.Syntax at.0, Formless tokens at.0 fits cut at.1))

@@ -10,7 +10,7 @@ use Rattle.lexer.specs.Terminal.{Terminal}
 use Rattle.lexer.specs.declared.fault.LexRefusalKind.{LexRefusalKind}
 use Rattle.lexer.proofs.Cutting.{has_one_cut, not_cut_and_refused, has_one_refusal}
 use Rattle.principals.specs.ActsFor.{PrincipalHierarchy}
-use Rattle.principals.specs.HierarchyText.{Entry, built, IsPrefixOfForm, IsUnexpectedInHierarchyAt, HasEntries, IsHierarchyOf, IsRefusedText, Long, Tokenless, Formless, Wrong, refusal_for}
+use Rattle.principals.specs.HierarchyText.{Entry, built, IsPrefixOfForm, IsUnexpectedInHierarchyAt, HasEntries, IsHierarchyOf, IsRefusedText, Long, Tokenless, Formless, Formed, refusal_for}
 use Rattle.principals.specs.Reading.{Ended, IsFormRefusal, IsHierarchyForm}
 use Rattle.common.specs.declared.refusal.RefusalAt.{RefusalAt}
 use Rattle.principals.specs.declared.fault.HierarchyRefusalKind.{HierarchyRefusalKind}
@@ -122,44 +122,48 @@ without_tokens text refusal refused = inl (refusal, refused, refl)
 with_token : (text : List ℕ) (tokens : List Terminal) (at : ℕ) → IsCut text tokens → IsUnexpectedInHierarchyAt tokens at → IsSyntaxRefusal text at
 with_token text tokens at cut unexpected = inr (tokens, cut, unexpected)
 
+having : (text : List ℕ) (tokens : List Terminal) (entries : List Entry) → length text ≤ MAX_TEXT → IsCut text tokens → IsHierarchyForm tokens entries → HasEntries text entries
+having text tokens entries fits cut form = record { fits = fits; tokens = tokens; cut = cut; form = form }
+
 pub refused_text_once : (text : List ℕ) (f g : RefusalAt HierarchyRefusalKind) → IsRefusedText text f → IsRefusedText text g → f ≡ g
 refused_text_once text _ _ (Long long) (Long again) = refl
 refused_text_once text _ _ (Long long) (Tokenless r fits refused) = too_long text long fits
 refused_text_once text _ _ (Long long) (Formless tokens at fits cut unexpected) = too_long text long fits
-refused_text_once text _ g (Long long) (Wrong es _ has_entries first) = too_long text long has_entries.fits
+refused_text_once text _ g (Long long) (Formed ts es _ short whole form first) = too_long text long short
 refused_text_once text _ _ (Tokenless r fits refused) (Long long) = too_long text long fits
 refused_text_once text _ _ (Tokenless r fits refused) (Tokenless other again too) =
     ap (λ x. refusal_for kind.Syntax x) (syntax_once text r.at other.at (without_tokens text r refused) (without_tokens text other too))
 refused_text_once text _ _ (Tokenless r fits refused) (Formless tokens at again cut unexpected) =
     ap (λ x. refusal_for kind.Syntax x) (syntax_once text r.at at (without_tokens text r refused) (with_token text tokens at cut unexpected))
-refused_text_once text _ g (Tokenless r fits refused) (Wrong es _ has_entries first) =
-    absurd (entries_not_syntax text es r.at has_entries (without_tokens text r refused))
+refused_text_once text _ g (Tokenless r fits refused) (Formed ts es _ short whole form first) =
+    absurd (entries_not_syntax text es r.at (having text ts es short whole form) (without_tokens text r refused))
 refused_text_once text _ _ (Formless tokens at fits cut unexpected) (Long long) = too_long text long fits
 refused_text_once text _ _ (Formless tokens at fits cut unexpected) (Tokenless other again too) =
     ap (λ x. refusal_for kind.Syntax x) (syntax_once text at other.at (with_token text tokens at cut unexpected) (without_tokens text other too))
 refused_text_once text _ _ (Formless tokens at fits cut unexpected) (Formless others other again cut_too too) =
     ap (λ x. refusal_for kind.Syntax x) (syntax_once text at other (with_token text tokens at cut unexpected) (with_token text others other cut_too too))
-refused_text_once text _ g (Formless tokens at fits cut unexpected) (Wrong es _ has_entries first) =
-    absurd (entries_not_syntax text es at has_entries (with_token text tokens at cut unexpected))
-refused_text_once text f _ (Wrong es _ has_entries first) (Long long) = too_long text long has_entries.fits
-refused_text_once text f _ (Wrong es _ has_entries first) (Tokenless r fits refused) =
-    absurd (entries_not_syntax text es r.at has_entries (without_tokens text r refused))
-refused_text_once text f _ (Wrong es _ has_entries first) (Formless tokens at fits cut unexpected) =
-    absurd (entries_not_syntax text es at has_entries (with_token text tokens at cut unexpected))
-refused_text_once text f g (Wrong es _ has_entries first) (Wrong others _ has_too first_too) =
-    same_refusal (built es) f g first (subst (λ x. built x ≡ Err g) (entries_once text others es has_too has_entries) first_too)
+refused_text_once text _ g (Formless tokens at fits cut unexpected) (Formed ts es _ short whole form first) =
+    absurd (entries_not_syntax text es at (having text ts es short whole form) (with_token text tokens at cut unexpected))
+refused_text_once text f _ (Formed ts es _ short whole form first) (Long long) = too_long text long short
+refused_text_once text f _ (Formed ts es _ short whole form first) (Tokenless r fits refused) =
+    absurd (entries_not_syntax text es r.at (having text ts es short whole form) (without_tokens text r refused))
+refused_text_once text f _ (Formed ts es _ short whole form first) (Formless tokens at fits cut unexpected) =
+    absurd (entries_not_syntax text es at (having text ts es short whole form) (with_token text tokens at cut unexpected))
+refused_text_once text f g (Formed ts es _ short whole form first) (Formed us others _ short_too whole_too form_too first_too) =
+    same_refusal (built es) f g first (subst (λ x. built x ≡ Err g) (entries_once text others es (having text us others short_too whole_too form_too) (having text ts es short whole form)) first_too)
 
 pub hierarchy_not_refused : (text : List ℕ) (h : PrincipalHierarchy) (f : RefusalAt HierarchyRefusalKind) → IsHierarchyOf text h → IsRefusedText text f → ⊥
-hierarchy_not_refused text h _ of (Long long) = too_long text long of.has_entries.fits
-hierarchy_not_refused text h _ of (Tokenless r fits refused) = entries_not_syntax text of.entries r.at of.has_entries (without_tokens text r refused)
-hierarchy_not_refused text h _ of (Formless tokens at fits cut unexpected) =
-    entries_not_syntax text of.entries at of.has_entries (with_token text tokens at cut unexpected)
-hierarchy_not_refused text h f of (Wrong es _ has_entries first) =
-    not_both (built of.entries) h f of.described (subst (λ x. built x ≡ Err f) (entries_once text es of.entries has_entries of.has_entries) first)
+hierarchy_not_refused text h _ (Formed us others _ short_too whole_too form_too described) (Long long) = too_long text long short_too
+hierarchy_not_refused text h _ (Formed us others _ short_too whole_too form_too described) (Tokenless r fits refused) =
+    entries_not_syntax text others r.at (having text us others short_too whole_too form_too) (without_tokens text r refused)
+hierarchy_not_refused text h _ (Formed us others _ short_too whole_too form_too described) (Formless tokens at fits cut unexpected) =
+    entries_not_syntax text others at (having text us others short_too whole_too form_too) (with_token text tokens at cut unexpected)
+hierarchy_not_refused text h f (Formed us others _ short_too whole_too form_too described) (Formed ts es _ short whole form first) =
+    not_both (built others) h f described (subst (λ x. built x ≡ Err f) (entries_once text es others (having text ts es short whole form) (having text us others short_too whole_too form_too)) first)
 
 pub hierarchy_once : (text : List ℕ) (h k : PrincipalHierarchy) → IsHierarchyOf text h → IsHierarchyOf text k → h ≡ k
-hierarchy_once text h k a b =
-    same_end (built a.entries) h k a.described (subst (λ x. built x ≡ Ok k) (entries_once text b.entries a.entries b.has_entries a.has_entries) b.described)
+hierarchy_once text h k (Formed ts es _ short whole form first) (Formed us others _ short_too whole_too form_too described) =
+    same_end (built es) h k first (subst (λ x. built x ≡ Ok k) (entries_once text others es (having text us others short_too whole_too form_too) (having text ts es short whole form)) described)
 
 -- ---- what refused tokens are of the text
 

@@ -26,10 +26,6 @@ pub record IsHierarchy (hierarchy : PrincipalHierarchy) : Type 0 where
   pub different : AllPairs (λ first second. first ≢ second) hierarchy.names
   pub there : All (λ pair. (pair.0 < length hierarchy.names) × (pair.1 < length hierarchy.names)) hierarchy.pairs
 
--- the principal with this number has this name
-abbrev pub HasName : PrincipalHierarchy → ℕ → List ℕ → Type 0
-HasName hierarchy number name = slice_get hierarchy.names number ≡ Some name
-
 -- the number of the principal with this name, or none
 abbrev pub number_of : PrincipalHierarchy → List ℕ → Option ℕ
 number_of hierarchy name = position (bytes_eq name) hierarchy.names
@@ -37,14 +33,18 @@ number_of hierarchy name = position (bytes_eq name) hierarchy.names
 -- acts-for by name: principals of both names are there, and the first acts for the second
 abbrev pub ActsForByName : PrincipalHierarchy → List ℕ → List ℕ → Type 0
 ActsForByName hierarchy first second =
-    (a : ℕ) × (b : ℕ) × HasName hierarchy a first × HasName hierarchy b second × ActsFor hierarchy.pairs a b
+    (a : ℕ) × (b : ℕ) × (slice_get hierarchy.names a ≡ Some first) × (slice_get hierarchy.names b ≡ Some second) × ActsFor hierarchy.pairs a b
 
 -- a hierarchy contains another: each principal of the other is here by name, and each acts-for of the other holds here by name
 pub record ContainsHierarchy (larger smaller : PrincipalHierarchy) : Type 0 where
   pub principals : (name : List ℕ) → Contains smaller.names name → Contains larger.names name
   pub acts : (first second : List ℕ) → ActsForByName smaller first second → ActsForByName larger first second
 
--- ---- parts of what a hierarchy keeps, by which proofs speak of them
+-- ---- parts of these, by which contracts and proofs speak of them
+
+-- the principal with this number has this name
+abbrev pub HasName : PrincipalHierarchy → ℕ → List ℕ → Type 0
+HasName hierarchy number name = slice_get hierarchy.names number ≡ Some name
 
 -- the names are all different
 abbrev pub AllDifferent : List (List ℕ) → Type 0

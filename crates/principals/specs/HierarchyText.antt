@@ -24,35 +24,24 @@ abbrev pub IsWord : List ℕ → Terminal → Type 0
 IsWord word token = (token.kind ≡ Name) × (token.text ≡ word)
 
 -- the token may name a principal: it is a name, and neither of the two words of this text
-pub record IsPrincipalName (token : Terminal) : Type 0 where
-  pub name : token.kind ≡ Name
-  pub not_principal : token.text ≢ codes "principal"
-  pub not_acts_for : token.text ≢ codes "actsfor"
+abbrev pub IsPrincipalName : Terminal → Type 0
+IsPrincipalName token = (token.kind ≡ Name) × (token.text ≢ codes "principal") × (token.text ≢ codes "actsfor")
 
--- the grammar has two nonterminals:
---   Items = End  |  `principal` Names  |  name `actsfor` name `;` Items
---   Names = name `,` Names  |  name `;` Items
-pub data Nonterminal : Type 0 where
-  Items : Nonterminal
-  Names : Nonterminal
-
--- the tokens are derived from a nonterminal, and have these entries
-pub data Derives : Nonterminal → List Terminal → List Entry → Type 0 where
-  Finish : (end : Terminal) → end.kind ≡ End → Derives Items (end ∷ []) []
+-- the tokens that may stand after a sign, up to the end, and the entries that they have. After `;`, and at the begin of the text, stands
+-- the end, a declaration or a pair; the names of a declaration stand after its word and after each `,`
+pub data Derives : (sign : List ℕ) → List Terminal → List Entry → Type 0 where
+  Finish : (end : Terminal) → end.kind ≡ End → Derives (codes ";") (end ∷ []) []
   Declaration : (word : Terminal) (rest : List Terminal) (entries : List Entry) → IsWord (codes "principal") word
-      → Derives Names rest entries → Derives Items (word ∷ rest) entries
-  PrincipalRelation : (left word right semicolon : Terminal) (rest : List Terminal) (entries : List Entry)
-      → IsPrincipalName left → IsWord (codes "actsfor") word → IsPrincipalName right → word_of semicolon.kind ≡ codes ";"
-      → Derives Items rest entries → Derives Items (left ∷ word ∷ right ∷ semicolon ∷ rest) (Relates left right ∷ entries)
-  OneMore : (name comma : Terminal) (rest : List Terminal) (entries : List Entry) → IsPrincipalName name
-      → word_of comma.kind ≡ codes "," → Derives Names rest entries → Derives Names (name ∷ comma ∷ rest) (Declares name ∷ entries)
-  Last : (name semicolon : Terminal) (rest : List Terminal) (entries : List Entry) → IsPrincipalName name
-      → word_of semicolon.kind ≡ codes ";" → Derives Items rest entries
-      → Derives Names (name ∷ semicolon ∷ rest) (Declares name ∷ entries)
+      → Derives (codes ",") rest entries → Derives (codes ";") (word ∷ rest) entries
+  DeclaredName : (name sign : Terminal) (rest : List Terminal) (entries : List Entry) → IsPrincipalName name
+      → Derives (word_of sign.kind) rest entries → Derives (codes ",") (name ∷ sign ∷ rest) (Declares name ∷ entries)
+  PrincipalRelation : (left word right sign : Terminal) (rest : List Terminal) (entries : List Entry)
+      → IsPrincipalName left → IsWord (codes "actsfor") word → IsPrincipalName right → word_of sign.kind ≡ codes ";"
+      → Derives (codes ";") rest entries → Derives (codes ";") (left ∷ word ∷ right ∷ sign ∷ rest) (Relates left right ∷ entries)
 
 -- the tokens are a prefix of those of some text of this form
 abbrev pub IsPrefixOfForm : List Terminal → Type 0
-IsPrefixOfForm front = (more : List Terminal) × (entries : List Entry) × Derives Items (front ++ more) entries
+IsPrefixOfForm front = (more : List Terminal) × (entries : List Entry) × Derives (codes ";") (front ++ more) entries
 
 -- ---- what the entries build
 
@@ -71,34 +60,39 @@ with_entry so_far (Relates left right) = do
   b ← ok_or (number_of so_far right.text) (refusal_for UnknownPrincipal right.start)
   Ok (record so_far { pairs = so_far.pairs ++ (a, b) ∷ [] })
 
+-- ---- the whole text
+
+-- what a text is read as: the hierarchy that its entries build, or the first refusal, which is that it is too long, that its tokens are
+-- refused, that one of them is such that no text of this form goes on with it, or the first thing that is wrong with its entries
+pub data IsReadAs (text : List ℕ) : Result PrincipalHierarchy (RefusalAt HierarchyRefusalKind) → Type 0 where
+  Long : MAX_TEXT < length text → IsReadAs text (Err (refusal_for TooLong 0))
+  Tokenless : (refusal : RefusalAt LexRefusalKind) → length text ≤ MAX_TEXT → IsTextRefused text refusal
+      → IsReadAs text (Err (refusal_for Syntax refusal.at))
+  Formless : (tokens : List Terminal) (at : ℕ) → length text ≤ MAX_TEXT → IsCut text tokens
+      → AreRefusedAt IsPrefixOfForm (λ front. ¬ IsPrefixOfForm front) tokens at → IsReadAs text (Err (refusal_for Syntax at))
+  Formed : (tokens : List Terminal) (entries : List Entry) (outcome : Result PrincipalHierarchy (RefusalAt HierarchyRefusalKind))
+      → length text ≤ MAX_TEXT → IsCut text tokens → Derives (codes ";") tokens entries
+      → along with_entry (record { names = []; pairs = [] }) entries ≡ outcome → IsReadAs text outcome
+
+-- ---- parts of the rules, by which contracts and proofs speak of them
+
 -- the hierarchy of entries, which are added one after another, or the first thing that is wrong with them
 abbrev pub built : List Entry → Result PrincipalHierarchy (RefusalAt HierarchyRefusalKind)
 built entries = along with_entry (record { names = []; pairs = [] }) entries
 
--- ---- the whole text
+-- the hierarchy of a text, and its first refusal
+abbrev pub IsHierarchyOf : List ℕ → PrincipalHierarchy → Type 0
+IsHierarchyOf text hierarchy = IsReadAs text (Ok hierarchy)
+
+abbrev pub IsRefusedText : List ℕ → RefusalAt HierarchyRefusalKind → Type 0
+IsRefusedText text refusal = IsReadAs text (Err refusal)
 
 -- a text of this form, with its entries
 pub record HasEntries (text : List ℕ) (entries : List Entry) : Type 0 where
   pub fits : length text ≤ MAX_TEXT
   pub tokens : List Terminal
   pub cut : IsCut text tokens
-  pub form : Derives Items tokens entries
-
--- the hierarchy of a text
-pub record IsHierarchyOf (text : List ℕ) (hierarchy : PrincipalHierarchy) : Type 0 where
-  pub entries : List Entry
-  pub has_entries : HasEntries text entries
-  pub described : built entries ≡ Ok hierarchy
-
--- the first refusal of a text: that it is too long, that its tokens are refused, that one of them is such that no text of this form
--- goes on with it, or the first thing that is wrong with its entries
-pub data IsRefusedText (text : List ℕ) : RefusalAt HierarchyRefusalKind → Type 0 where
-  Long : MAX_TEXT < length text → IsRefusedText text (refusal_for TooLong 0)
-  Tokenless : (refusal : RefusalAt LexRefusalKind) → length text ≤ MAX_TEXT → IsTextRefused text refusal → IsRefusedText text (refusal_for Syntax refusal.at)
-  Formless : (tokens : List Terminal) (at : ℕ) → length text ≤ MAX_TEXT → IsCut text tokens
-      → AreRefusedAt IsPrefixOfForm (λ front. ¬ IsPrefixOfForm front) tokens at → IsRefusedText text (refusal_for Syntax at)
-  Wrong : (entries : List Entry) (refusal : RefusalAt HierarchyRefusalKind) → HasEntries text entries → built entries ≡ Err refusal
-      → IsRefusedText text refusal
+  pub form : Derives (codes ";") tokens entries
 
 -- the first token with which no text of this form goes on begins at a byte
 abbrev pub IsUnexpectedInHierarchyAt : List Terminal → ℕ → Type 0

@@ -5,9 +5,11 @@ use Rattle.principals.specs.ActsFor.{PrincipalHierarchy}
 use Rattle.std.specs.Option.{option_and_then}
 use Rattle.lexer.specs.KindRows.{code_of}
 use Rattle.lexer.specs.Terminal.{Terminal, terminal_of}
+use Rattle.lexer.specs.TokenKind as token
+use Rattle.lexer.specs.TokenKind.{word_of}
 use Rattle.lexer.specs.declared.token.Kind.{Kind}
 use Rattle.lexer.specs.declared.token.Kind.TheVariants.{Name as NameKind, Comma as CommaKind, Semicolon as SemicolonKind, End as EndKind}
-use Rattle.principals.specs.HierarchyText.{Entry, Declares, Relates, Derives, Items, IsUnexpectedInHierarchyAt, built, refusal_for}
+use Rattle.principals.specs.HierarchyText.{Entry, Declares, Relates, IsWord, IsPrincipalName, Derives, IsUnexpectedInHierarchyAt, built, refusal_for}
 use Rattle.common.specs.declared.refusal.RefusalAt.{RefusalAt}
 use Rattle.principals.specs.declared.fault.HierarchyRefusalKind.{HierarchyRefusalKind}
 use Rattle.principals.specs.declared.fault.HierarchyRefusalKind.TheVariants.{Syntax, DeclaredTwice, TooManyPrincipals, UnknownPrincipal}
@@ -28,6 +30,27 @@ role_by _ text = Other
 
 abbrev pub role_of : Terminal → TokenRole
 role_of token = role_by (code_of token.kind) token.text
+
+-- the same grammar with nonterminals:
+--   Items = End  |  `principal` Names  |  name `actsfor` name `;` Items
+--   Names = name `,` Names  |  name `;` Items
+pub data Nonterminal : Type 0 where
+  Items : Nonterminal
+  Names : Nonterminal
+
+-- the tokens are derived from a nonterminal, and have these entries
+pub data DerivesFrom : Nonterminal → List Terminal → List Entry → Type 0 where
+  Finish : (end : Terminal) → end.kind ≡ token.End → DerivesFrom Items (end ∷ []) []
+  Declaration : (word : Terminal) (rest : List Terminal) (entries : List Entry) → IsWord (codes "principal") word
+      → DerivesFrom Names rest entries → DerivesFrom Items (word ∷ rest) entries
+  PrincipalRelation : (left word right semicolon : Terminal) (rest : List Terminal) (entries : List Entry)
+      → IsPrincipalName left → IsWord (codes "actsfor") word → IsPrincipalName right → word_of semicolon.kind ≡ codes ";"
+      → DerivesFrom Items rest entries → DerivesFrom Items (left ∷ word ∷ right ∷ semicolon ∷ rest) (Relates left right ∷ entries)
+  OneMore : (name comma : Terminal) (rest : List Terminal) (entries : List Entry) → IsPrincipalName name
+      → word_of comma.kind ≡ codes "," → DerivesFrom Names rest entries → DerivesFrom Names (name ∷ comma ∷ rest) (Declares name ∷ entries)
+  Last : (name semicolon : Terminal) (rest : List Terminal) (entries : List Entry) → IsPrincipalName name
+      → word_of semicolon.kind ≡ codes ";" → DerivesFrom Items rest entries
+      → DerivesFrom Names (name ∷ semicolon ∷ rest) (Declares name ∷ entries)
 
 -- what was read of an item: nothing; what comes before a declared name; the name; the left name of a pair; this and the
 -- word; the whole pair. At last the end marker
@@ -87,7 +110,7 @@ entries_of statements = map entry_of statements
 
 -- the tokens of a whole text of this form, with these entries
 abbrev pub IsHierarchyForm : List Terminal → List Entry → Type 0
-IsHierarchyForm tokens entries = Derives Items tokens entries
+IsHierarchyForm tokens entries = Derives (codes ";") tokens entries
 
 -- the names that are declared, in order
 abbrev pub declared : List Entry → List (List ℕ)

@@ -15,6 +15,7 @@ use Rattle.labels.proofs.Tests.{flows-decides, covers-decides}
 use Rattle.labels.proofs.Elements.{each_from_All}
 use Rattle.resolved.specs.Program.{Program}
 use Rattle.resolved.specs.Labelled.{Unwritten, OfLocal, OfLoop, Demand, Labelled, program_demands}
+use Rattle.resolved.proofs.Demands.{labelled-fits, labelled-from}
 use Rattle.resolved.specs.Flow.{IsFlowChain, IsProgramRefused, AreLeast, Gathered, AreGathered, IsUncovered, reported_step}
 
 pub same_unwritten : Unwritten → Unwritten → Bool
@@ -52,7 +53,7 @@ pub chain-refuses : (program : Program) (policy : ReaderPolicy) (chain : List De
 chain-refuses program policy chain last is labelled =
     chain-rules_out (label_lattice program.hierarchy) (IsLattice-flows program.hierarchy) (program_demands program) is.from chain last
     (record { linked = is.linked; to = is.to; right_is = is.right_is; not_below = not_below (flows program.hierarchy is.from is.to) refl })
-    labelled.0 labelled.1
+    labelled.0 (labelled-fits program labelled)
   where
     not_below : (b : Bool) → flows program.hierarchy is.from is.to ≡ b → b ≡ false
     not_below false e = refl
@@ -79,16 +80,12 @@ uncovered h (policy ∷ rest) to e = go (covers h to policy) refl (uncovered h r
     go false f later = (policy, Contains-first policy rest, λ covered. let i : true ≡ false = sym ((covers-decides h to policy).1 covered) ∙ f in cc)
     go true f later = let found = later (sym (rw f refl) ∙ e) in (found.0, Contains-later policy rest found.0 found.1, found.2)
 
--- labels for what has no written one make a labelling
-pub labelled-from : (program : Program) (labels : Unwritten → Label) → FitsAll (label_lattice program.hierarchy) (program_demands program) labels → Labelled program
-labelled-from program labels fits = (labels, fits)
-
 -- the least labels decide
 pub least-decide : (program : Program) (labels : Unwritten → Label) → AreLeast program labels →
     Labelled program ↔ FitsAll (label_lattice program.hierarchy) (program_demands program) labels
 least-decide program labels least = (
   λ labelled. least-fits (label_lattice program.hierarchy) (IsLattice-flows program.hierarchy) (program_demands program) labels least
-      labelled.0 labelled.1,
+      labelled.0 (labelled-fits program labelled),
   λ fits. labelled-from program labels fits,
 )
 
@@ -195,7 +192,7 @@ module _ (program : Program) (cs : List Gathered) (gathered : AreGathered progra
   gathered-labelled = (
     λ labelled.
         let up = fits-up (program_demands program) cs gathered (label_lattice program.hierarchy) (IsLattice-flows program.hierarchy)
-        (λ (a b : ℕ). a == b) (λ a b e. grind (arith, e)) (λ a. grind arith) labelled.0 labelled.1 in
+        (λ (a b : ℕ). a == b) (λ a b e. grind (arith, e)) (λ a. grind arith) labelled.0 (labelled-fits program labelled) in
         (up.0, up.1),
     λ found. labelled-from program (λ u. found.0 (gathered.number u))
         (fits-down (program_demands program) cs gathered (label_lattice program.hierarchy) (IsLattice-flows program.hierarchy) found.0 found.1),

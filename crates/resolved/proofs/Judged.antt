@@ -1,20 +1,20 @@
 -- What the judgements say, part by part: their exits, labels, demands and faults are those that code and proofs walk apart.
 use Rattle.std.proofs.Common.{◌≡◌, refl, sym, ap, ◌∙◌, ℕ, suc, Bool, true, false, not, List, [], ◌∷◌, ◌++◌, filter, length, append_assoc, append-nil, add-one, length-append}
-use Rattle.std.specs.Prelude.{flat_map, if◌then◌else◌, slice_index_or, Some, None}
+use Rattle.std.specs.Prelude.{flat_map, fold, map, ◌+◌, if◌then◌else◌, slice_index_or, Some, None}
 use Rattle.std.specs.Prelude.{◌||◌}
-use Rattle.std.specs.List.{list_any}
+use Rattle.std.specs.List.{list_any, enumerate_from}
 use Rattle.std.proofs.Math.Bool.{or_assoc, or-false}
 use Rattle.std.proofs.lemmas.Bool.{or_parts}
 use Rattle.std.proofs.lemmas.List.Folds.{list_any-append}
 use Rattle.resolved.specs.declared.statement.Exit.{Exit}
 use Rattle.resolved.specs.declared.statement.Exit.TheVariants.{Normal, Return, Break, Continue, Throw}
-use Rattle.resolved.specs.declared.target.Target.TheVariants.{ToBegin, ToThrown, ToLoop}
+use Rattle.resolved.specs.declared.target.Target.TheVariants.{ToBegin, ToParameter, ToEnd, ToThrown, ToLoop}
 use Rattle.resolved.specs.Tree.{Expression, Statement, Assign, Clear, Store, Receive, Send, Call, If, While, Leave, ReturnWith, Try, Nested, Block, Empty, Then, Handlers, NoMore, Catch}
 use Rattle.resolved.specs.Program.{Program, ProcedureEntry, ThrownEntry, procedure_at}
 use Rattle.resolved.specs.BitUse.{expression_uses_bits, statement_uses_bits, block_uses_bits, handlers_use_bits, uses_bits, procedures_use_bits}
-use Rattle.resolved.specs.Exits.{same_exit, has_exit, one_exit, list_if, leaves_loop, raises, thrown_exits, taken_by, handles, passes, then_exits, statement_exits, block_exits, handlers_exits}
+use Rattle.resolved.specs.Exits.{same_exit, has_exit, one_exit, list_if, leaves_loop, raises, thrown_exits, taken_by, declared_by, handles, passes, then_exits, statement_exits, block_exits, handlers_exits}
 use Rattle.resolved.specs.ExitFaults.{statement_faults, block_faults, handlers_faults, procedure_faults}
-use Rattle.resolved.specs.Labelled.{Scope, here, Join, one, label_of, value_label, raise_label, ExitLabels, Demand, demand, Judgement, whole, without, own, rule_of, rule_of_block, rule_of_handlers, exit_demands, procedure_judgement, judgement_from, program_demands, exit_faults}
+use Rattle.resolved.specs.Labelled.{Scope, here, Join, one, label_of, value_label, raise_label, ExitLabels, Demand, demand, Judgement, ◌&◌, ending, whole, without, own, rule_of, rule_of_block, rule_of_handlers, argument_demands, exit_demands, procedure_judgement, judgement_from, program_judgement, program_demands, exit_faults}
 use Rattle.resolved.specs.LabelRules.{at_exits, block_rule, handlers_rule, statement_exit_labels, block_exit_labels, statement_demands, block_demands, handlers_demands, procedure_demands, demands_from}
 use Rattle.resolved.proofs.Exits.{thrown-normal}
 
@@ -98,6 +98,15 @@ loop-alike ends q ended x Continue = refl
 loop-alike ends q ended x (Throw e) = refl
 
 module _ (scope : Scope) where
+  -- the demands on arguments, one by one from parameter i on
+  arguments-of : (at : ℕ) (q : Join) (callee i : ℕ) (arguments : List Expression)
+      → flat_map (λ (i, e). demand scope.program at 6 (q ++ value_label scope e) (ToParameter callee i)) (enumerate_from i arguments)
+      ≡ argument_demands scope at q callee i arguments
+  arguments-of at q callee i [] = refl
+  arguments-of at q callee i (e ∷ rest) =
+      ap (λ demands. demand scope.program at 6 (q ++ value_label scope e) (ToParameter callee i) ++ demands)
+      (arguments-of at q callee (i + 1) rest ∙ ap (λ next. argument_demands scope at q callee next rest) (add-one i))
+
   mutual
     pub exits-of : (s : Statement) (loop reached : Bool) (pc : Join)
         → (rule_of scope loop reached pc s).exits ≡ statement_exits scope.program s
@@ -336,7 +345,8 @@ module _ (scope : Scope) where
     demands-of (Store at array count index e) loop reached pc = refl
     demands-of (Receive at channel target) loop reached pc = refl
     demands-of (Send at channel e) loop reached pc = refl
-    demands-of (Call at procedure arguments target) loop reached pc = refl
+    demands-of (Call at procedure arguments target) loop reached pc =
+        rw (arguments-of at (pc ++ flat_map (raise_label scope) arguments) procedure 0 arguments) refl
     demands-of (If at e then_block else_block) loop reached pc =
         let branch : Join = pc ++ raise_label scope e ++ value_label scope e in
         rw (block_demands-of then_block loop true branch, block_demands-of else_block loop true branch) refl
@@ -377,12 +387,20 @@ module _ (scope : Scope) where
 
   -- ---- procedures
   thrown-alike : (x y : ExitLabels) → Alike x y → (throws : List ThrownEntry) →
-      flat_map (λ (entry : ThrownEntry). demand scope.program (here scope).at 13 (x (Throw entry.exception)) (ToThrown scope.number entry.exception)) throws
+      flat_map (λ exception. demand scope.program (here scope).at 13 (x (Throw exception)) (ToThrown scope.number exception)) (declared_by throws)
       ≡ flat_map (λ (entry : ThrownEntry). demand scope.program (here scope).at 13 (y (Throw entry.exception)) (ToThrown scope.number entry.exception)) throws
   thrown-alike x y same [] = refl
   thrown-alike x y same (entry ∷ rest) = rw (same (Throw entry.exception), thrown-alike x y same rest) refl
 
-  exit_demands-alike : (ends exits : List Exit) (x y : ExitLabels) → ends ≡ exits → Alike x y → exit_demands scope ends x ≡ exit_demands scope exits y
+  -- the demands on the exits of a procedure, as the judgement lists them
+  abbrev at_ends : List Exit → ExitLabels → List Demand
+  at_ends exits x =
+      if one_exit (map (λ exit. if same_exit Return exit then Normal else exit) exits) then []
+      else (demand scope.program (here scope).at 13 (x Normal ++ x Return) (ToEnd scope.number)
+      ++ flat_map (λ exception. demand scope.program (here scope).at 13 (x (Throw exception)) (ToThrown scope.number exception))
+      (declared_by (here scope).throws))
+
+  exit_demands-alike : (ends exits : List Exit) (x y : ExitLabels) → ends ≡ exits → Alike x y → at_ends ends x ≡ exit_demands scope exits y
   exit_demands-alike ends exits x y e same =
       rw (e, same Normal, same Return, thrown-alike x y same (here scope).throws) refl
 
@@ -393,7 +411,7 @@ module _ (scope : Scope) where
   procedure_demands-of =
       let body : Block = (here scope).body in
       let inner : Judgement = whole begin (rule_of_block scope false true begin body) in
-      both inner.demands (block_demands scope begin body) (exit_demands scope inner.exits inner.labels)
+      both inner.demands (block_demands scope begin body) (at_ends inner.exits inner.labels)
       (exit_demands scope (block_exits scope.program body) (block_exit_labels scope begin body))
       (block_demands-of body false true begin)
       (exit_demands-alike inner.exits (block_exits scope.program body) inner.labels (block_exit_labels scope begin body)
@@ -407,6 +425,25 @@ module _ (scope : Scope) where
       rw (block_faults-of (here scope).body false true begin, block_exits-of (here scope).body false true begin) refl
 
 -- ---- programs
+
+-- what is judged of a program's procedures one after the other, after what was judged before, is what is judged of them from the first on
+module _ (program : Program) where
+  abbrev judged : Judgement → ℕ → List ProcedureEntry → Judgement
+  judged before f procedures =
+      fold (λ before (number, _). before & procedure_judgement (record { program = program; number = number })) before (enumerate_from f procedures)
+
+  judged-one : {A : Type 0} (part : Judgement → List A) → ((first second : Judgement) → part (first & second) ≡ part first ++ part second) → part (ending [] []) ≡ []
+      → (before : Judgement) (f : ℕ) (procedures : List ProcedureEntry) → part (judged before f procedures) ≡ part before ++ part (judgement_from program f procedures)
+  judged-one part both none before f [] = sym (append-nil (part before)) ∙ ap (λ list. part before ++ list) (sym none)
+  judged-one part both none before f (procedure ∷ rest) =
+      let own : Judgement = procedure_judgement (record { program = program; number = f }) in
+      judged-one part both none (before & own) (f + 1) rest
+      ∙ rw (both before own, both own (judgement_from program (suc f) rest), add-one f) (append_assoc (part before) (part own) (part (judgement_from program (suc f) rest)))
+
+  whole-is : {A : Type 0} (part : Judgement → List A) → ((first second : Judgement) → part (first & second) ≡ part first ++ part second) → part (ending [] []) ≡ []
+      → part (program_judgement program) ≡ part (judgement_from program 0 program.procedures)
+  whole-is part both none = judged-one part both none (ending [] []) 0 program.procedures ∙ rw none refl
+
 demands-from : (program : Program) (f : ℕ) (procedures : List ProcedureEntry)
     → (judgement_from program f procedures).demands ≡ demands_from program f procedures
 demands-from program f [] = refl
@@ -415,7 +452,7 @@ demands-from program f (procedure ∷ rest) =
     rw (procedure_demands-of scope, demands-from program (suc f) rest) refl
 
 pub demands-apart : (program : Program) → program_demands program ≡ demands_from program 0 program.procedures
-demands-apart program = demands-from program 0 program.procedures
+demands-apart program = whole-is program (λ (j : Judgement). j.demands) (λ first second. refl) refl ∙ demands-from program 0 program.procedures
 
 there : (before : List ProcedureEntry) (procedure : ProcedureEntry) (rest : List ProcedureEntry) (none : ProcedureEntry)
     → slice_index_or (before ++ procedure ∷ rest) (length before) none ≡ procedure
@@ -435,7 +472,8 @@ faults-from program f before (procedure ∷ rest) e all =
     (faults-from program (suc f) (before ++ procedure ∷ []) rest past (all ∙ sym (append_assoc before (procedure ∷ []) rest)))
 
 pub faults-apart : (program : Program) → exit_faults program ≡ flat_map (procedure_faults program) program.procedures
-faults-apart program = faults-from program 0 [] program.procedures refl refl
+faults-apart program =
+    whole-is program (λ (j : Judgement). j.faults) (λ first second. refl) refl ∙ faults-from program 0 [] program.procedures refl refl
 
 bits-from : (program : Program) (f : ℕ) (before procedures : List ProcedureEntry) → f ≡ length before → program.procedures ≡ (before ++ procedures)
     → list_any expression_uses_bits (judgement_from program f procedures).expressions ≡ procedures_use_bits procedures
@@ -451,4 +489,6 @@ bits-from program f before (procedure ∷ rest) e all =
     ) refl
 
 pub bits-apart : (program : Program) → uses_bits program ≡ procedures_use_bits program.procedures
-bits-apart program = bits-from program 0 [] program.procedures refl refl
+bits-apart program =
+    ap (list_any expression_uses_bits) (whole-is program (λ (j : Judgement). j.expressions) (λ first second. refl) refl)
+    ∙ bits-from program 0 [] program.procedures refl refl

@@ -6,5 +6,6 @@ pub mod Judged
 pub mod WellFormedParts
 pub mod Growing
 pub mod Measured
+pub mod Demands
 pub mod Flow
 mod ExceptionNames

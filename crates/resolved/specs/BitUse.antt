@@ -2,12 +2,12 @@
 -- Source: our own.
 use Rattle.std.specs.Prelude.{List, Bool, true, false, Some, None, ◌||◌}
 use Rattle.std.specs.List.{list_any}
-use Rattle.resolved.specs.declared.expression.Operator.{Operator}
-use Rattle.resolved.specs.declared.expression.Operator.TheVariants.{Compute}
+use Rattle.common.specs.declared.operator.Operator.{Operator}
+use Rattle.common.specs.declared.operator.Operator.TheVariants.{Compute}
 use Rattle.common.specs.declared.operator.Arithmetic.TheVariants.{Bits}
 use Rattle.resolved.specs.Tree.{Expression, Integer, Logical, Read, Element, Unary, Binary, Short, Statement, Assign, Clear, Store, Receive, Send, Call, If, While, Leave, ReturnWith, Try, Nested, Block, Empty, Then, Handlers, NoMore, Catch}
 use Rattle.resolved.specs.Program.{Program, ProcedureEntry}
-use Rattle.resolved.specs.Labelled.{judgement_from}
+use Rattle.resolved.specs.Labelled.{program_judgement}
 
 abbrev pub is_bit_operator : Operator → Bool
 is_bit_operator (Compute (Bits operator)) = true
@@ -25,7 +25,7 @@ expression_uses_bits (Short connective d e) = expression_uses_bits d || expressi
 
 -- whether a program uses one somewhere
 abbrev pub uses_bits : Program → Bool
-uses_bits program = list_any expression_uses_bits (judgement_from program 0 program.procedures).expressions
+uses_bits program = list_any expression_uses_bits (program_judgement program).expressions
 
 -- ---- the same by a walk over the statements alone, as code goes; that both agree is a law (`parts_are_those_of_the_rules`)
 

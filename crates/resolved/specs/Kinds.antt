@@ -2,14 +2,15 @@
 -- Source: type soundness as in Milner 1978, for our own language.
 use Rattle.std.specs.Prelude.{◌≡◌, ℕ, List, [], ◌∷◌, length, All, Option, Some, None, IsTrue, ◌&&◌}
 use Rattle.common.specs.declared.base_type.BaseType.{BaseType}
-use Rattle.resolved.specs.declared.expression.Value.{Value}
+use Rattle.common.specs.declared.value.Value.{Value}
 use Rattle.resolved.specs.declared.expression.Variable.{Variable}
 use Rattle.resolved.specs.declared.statement.Exit.{Exit}
 use Rattle.resolved.specs.declared.statement.Exit.TheVariants.{Return}
 use Rattle.resolved.specs.Exits.{same_exit}
 use Rattle.resolved.specs.Tree.{Expression, Block}
 use Rattle.resolved.specs.Program.{Program, ProcedureEntry, ResultEntry, SlotEntry, procedure_at}
-use Rattle.resolved.specs.Value.{Evaluated, Yields, Raises, base_of}
+use Rattle.common.specs.Values.{kind_of}
+use Rattle.resolved.specs.Value.{Evaluated, Yields, Raises}
 use Rattle.resolved.specs.SourceState.{World, SourceState, cells, value_of}
 use Rattle.resolved.specs.Meaning.{Outcome, Ended, Stopped, state_after, block_meaning, calls_with, entering, first_state}
 use Rattle.resolved.specs.WellFormed.{VariableType, variable_type, cell_count, same_base, has_base, has_result, block_fits, well_formed}
@@ -17,7 +18,7 @@ use Rattle.resolved.specs.WellFormed.{VariableType, variable_type, cell_count, s
 -- the cells of a variable of a type
 pub record CellsFit (type : VariableType) (values : List Value) : Type 0 where
   pub count : length values ≡ cell_count type.size
-  pub kinds : All (λ v. base_of v ≡ type.base) values
+  pub kinds : All (λ v. kind_of v ≡ type.base) values
 
 -- a state in which each variable of a procedure has the cells of its type
 pub record StateFits (program : Program) (procedure : ProcedureEntry) (s : SourceState) : Type 0 where
@@ -28,16 +29,16 @@ abbrev pub ArgumentsFit : (parameters : List SlotEntry) → (arguments : List Va
 ArgumentsFit [] [] = Unit {0}
 ArgumentsFit [] (v ∷ rest) = ⊥
 ArgumentsFit (parameter ∷ parameters) [] = ⊥
-ArgumentsFit (parameter ∷ parameters) (v ∷ rest) = (base_of v ≡ parameter.base) × ArgumentsFit parameters rest
+ArgumentsFit (parameter ∷ parameters) (v ∷ rest) = (kind_of v ≡ parameter.base) × ArgumentsFit parameters rest
 
 -- a value of a base type, where evaluation gives a value
 abbrev pub GivesBase : BaseType → Evaluated Value → Type 0
-GivesBase base (Yields v) = base_of v ≡ base
+GivesBase base (Yields v) = kind_of v ≡ base
 GivesBase base (Raises exception) = Unit {0}
 
 -- a returned value stands at this exit alone, and has the base type of a procedure's value
 abbrev pub ReturnedFits : Exit → Option ResultEntry → Outcome → Type 0
-ReturnedFits result_exit result (Ended exit (Some v) s) = IsTrue (same_exit result_exit exit && has_result result (same_base (base_of v)))
+ReturnedFits result_exit result (Ended exit (Some v) s) = IsTrue (same_exit result_exit exit && has_result result (same_base (kind_of v)))
 ReturnedFits result_exit result (Ended exit None s) = Unit {0}
 ReturnedFits result_exit result (Stopped stop s) = Unit {0}
 

@@ -7,10 +7,10 @@
 -- (in braces), and 13 the exits of a procedure.
 -- Source: our own rules; several exits of a statement, with a label for each, as in JFlow (Myers 1999), simple security and confinement after Volpano,
 -- Smith and Irvine 1996.
-use Rattle.std.specs.Prelude.{ℕ, suc, List, [], ◌∷◌, ◌++◌, Bool, true, false, not, map, filter, flat_map, ◌==◌, ◌&&◌, ◌||◌, if◌then◌else◌, Option, Some, None, is_some, unwrap_or, option_map, find}
-use Rattle.std.specs.List.{list_all, list_any}
+use Rattle.std.specs.Prelude.{ℕ, suc, List, [], ◌∷◌, ◌++◌, All, Bool, true, false, not, map, filter, flat_map, fold, ◌==◌, ◌&&◌, ◌||◌, if◌then◌else◌, Option, Some, None, is_some, unwrap_or, option_map, option_to_list, find}
+use Rattle.std.specs.List.{list_all, list_any, enumerate_from}
 use Rattle.principals.specs.ActsFor.{PrincipalHierarchy}
-use Rattle.labels.specs.Label.{Label}
+use Rattle.labels.specs.Label.{Label, FlowsTo}
 use Rattle.lattices.specs.Constraints.{Atom, Written, Unknown, Constraint, FitsAll, join_of, value}
 use Rattle.labels.specs.LabelLattice.{label_lattice}
 use Rattle.resolved.specs.declared.expression.Variable.{Variable}
@@ -36,22 +36,15 @@ pub data Unwritten : Type 0 where
 abbrev pub Join : Type 0
 Join = List (Atom Unwritten Label)
 
-abbrev pub one : Atom Unwritten Label → Join
-one atom = atom ∷ []
-
 -- where a statement stands: its program and the number of its procedure
 pub record Scope : Type 0 where
   pub program : Program
   pub number : ℕ
 
-abbrev pub here : Scope → ProcedureEntry
-here scope = procedure_at scope.program scope.number
-
 -- the label of what stands on the right side of a demand; that of a parameter is always written
 abbrev pub label_of : Program → Target → Atom Unwritten Label
 label_of program (ToVariable f (Global n)) = Written (global_at program n).label
-label_of program (ToVariable f (Local n)) =
-    unwrap_or (option_map (λ label. Written label) (slot_at (procedure_at program f) n).written) (Unknown (OfLocal f n))
+label_of program (ToVariable f (Local n)) = unwrap_or (option_map Written (slot_at (procedure_at program f) n).written) (Unknown (OfLocal f n))
 label_of program (ToChannel channel) = Written (channel_at program channel).label
 label_of program (ToBegin f) = Written (procedure_at program f).begin_label
 label_of program (ToParameter f i) = Written (unwrap_or (slot_at (procedure_at program f) i).written [])
@@ -61,16 +54,12 @@ label_of program (ToThrown f exception) = Written (unwrap_or (option_map (λ (en
     (find (λ (entry : ThrownEntry). exception == entry.exception) (procedure_at program f).throws)) [])
 label_of program (ToLoop f loop) = Unknown (OfLoop f loop)
 
--- the label of a variable
-abbrev pub variable_label : Scope → Variable → Join
-variable_label scope x = one (label_of scope.program (ToVariable scope.number x))
-
 -- V: the label of an expression's value
 abbrev pub value_label : Scope → Expression → Join
 value_label scope (Integer n) = []
 value_label scope (Logical b) = []
-value_label scope (Read x) = variable_label scope x
-value_label scope (Element array length index) = variable_label scope array ++ value_label scope index
+value_label scope (Read x) = label_of scope.program (ToVariable scope.number x) ∷ []
+value_label scope (Element array length index) = label_of scope.program (ToVariable scope.number array) ∷ value_label scope index
 value_label scope (Unary prefix e) = value_label scope e
 value_label scope (Binary operator d e) = value_label scope d ++ value_label scope e
 value_label scope (Short connective d e) = value_label scope d ++ value_label scope e
@@ -97,11 +86,11 @@ ExitLabels = Exit → Join
 -- X of a call whose arguments were evaluated at q: the end label of the procedure counts where it declares exceptions
 abbrev pub call_exit_labels : Program → (callee : ℕ) → (q : Join) → ExitLabels
 call_exit_labels program callee q Normal =
-    q ++ list_if (any_of (procedure_at program callee).throws) (one (label_of program (ToEnd callee)))
+    q ++ list_if (any_of (procedure_at program callee).throws) (label_of program (ToEnd callee) ∷ [])
 call_exit_labels program callee q Return = q
 call_exit_labels program callee q Break = q
 call_exit_labels program callee q Continue = q
-call_exit_labels program callee q (Throw exception) = q ++ one (label_of program (ToThrown callee exception))
+call_exit_labels program callee q (Throw exception) = q ++ label_of program (ToThrown callee exception) ∷ []
 
 -- a demand: what is on the left flows to the label of its target; with the first byte of its statement, and its rule
 abbrev pub Demand : Type 0
@@ -112,14 +101,7 @@ demand program at rule left target = record { at = at; rule = rule; left = left;
 
 -- the demand on a target, if there is one
 abbrev pub target_demand : Scope → (at rule : ℕ) → Join → Option Variable → List Demand
-target_demand scope at rule left None = []
-target_demand scope at rule left (Some x) = demand scope.program at rule left (ToVariable scope.number x)
-
--- the demands on arguments that are evaluated at q, from parameter i on
-abbrev pub argument_demands : Scope → (at : ℕ) → (q : Join) → (callee i : ℕ) → List Expression → List Demand
-argument_demands scope at q callee i [] = []
-argument_demands scope at q callee i (e ∷ rest) =
-    demand scope.program at 6 (q ++ value_label scope e) (ToParameter callee i) ++ argument_demands scope at q callee (suc i) rest
+target_demand scope at rule left target = flat_map (λ x. demand scope.program at rule left (ToVariable scope.number x)) (option_to_list target)
 
 -- the judgement on what is reached at pc: the expressions in it; its possible exits, of which one may be named several times; X; the
 -- demands, in the order in which its rule lists them; and what is wrong with its exits, in the order in which they are looked at
@@ -185,14 +167,15 @@ abbrev mutual
       let exceptions : List ℕ = raises index ++ raises e ++ list_if (index_can_raise index length) (BOUNDS ∷ []) in
       own reached at (index ∷ e ∷ []) (Normal ∷ map Throw exceptions) q (demand scope.program at 3 left (ToVariable scope.number array))
   rule_of scope in_loop reached pc (Receive at channel target) =
-      let q : Join = pc ++ one (label_of scope.program (ToChannel channel)) in
+      let q : Join = pc ++ label_of scope.program (ToChannel channel) ∷ [] in
       own reached at [] (Normal ∷ Throw END ∷ []) q (demand scope.program at 4 pc (ToChannel channel) ++ target_demand scope at 4 q target)
   rule_of scope in_loop reached pc (Send at channel e) = own_value scope reached pc at 5 Normal e (ToChannel channel)
   rule_of scope in_loop reached pc (Call at procedure arguments target) =
       let q : Join = pc ++ flat_map (raise_label scope) arguments in
       let x : ExitLabels = call_exit_labels scope.program procedure q in
-      let asked : List Demand = demand scope.program at 6 q (ToBegin procedure) ++ argument_demands scope at q procedure 0 arguments
-      ++ target_demand scope at 6 (x Normal ++ one (label_of scope.program (ToValue procedure))) target in
+      let given : ℕ × Expression → List Demand = λ (i, e). demand scope.program at 6 (q ++ value_label scope e) (ToParameter procedure i) in
+      let asked : List Demand = demand scope.program at 6 q (ToBegin procedure) ++ flat_map given (enumerate_from 0 arguments)
+      ++ target_demand scope at 6 (x Normal ++ label_of scope.program (ToValue procedure) ∷ []) target in
       let exceptions : List ℕ = flat_map raises arguments ++ declared_by (procedure_at scope.program procedure).throws in
       record (own reached at arguments (Normal ∷ map Throw exceptions) q asked) { labels = x }
   rule_of scope in_loop reached pc (If at e then_block else_block) =
@@ -202,7 +185,7 @@ abbrev mutual
       & whole branch (rule_of_block scope in_loop true branch else_block)
   rule_of scope in_loop reached pc (While at loop e body) =
       let to_loop : Join → List Demand = λ left. demand scope.program at 8 left (ToLoop scope.number loop) in
-      let q : Join = one (label_of scope.program (ToLoop scope.number loop)) ++ raise_label scope e in
+      let q : Join = label_of scope.program (ToLoop scope.number loop) ∷ raise_label scope e in
       let b : Join = q ++ value_label scope e in
       let inner : Judgement = whole b (rule_of_block scope true true b body) in
       let back : List Demand = to_loop (inner.labels Normal ++ inner.labels Continue) in
@@ -234,27 +217,46 @@ abbrev mutual
       record (ending [] pc) { faults = fault_unless (has_exit left (Throw handled)) NeverRaised at }
       & whole pc (rule_of_block scope in_loop true pc body) & rule_of_handlers scope in_loop untaken x rest
 
--- 13: the demands on the exits of a procedure's body, where it has more than one, its normal exit and its return being one: on these
--- two, then on each exception in the order in which they are declared, all at the procedure's name
-abbrev pub exit_demands : Scope → (exits : List Exit) → ExitLabels → List Demand
-exit_demands scope exits x =
-    if one_exit (map (λ exit. if same_exit Return exit then Normal else exit) exits) then []
-    else (demand scope.program (here scope).at 13 (x Normal ++ x Return) (ToEnd scope.number)
-    ++ flat_map (λ (entry : ThrownEntry). demand scope.program (here scope).at 13 (x (Throw entry.exception)) (ToThrown scope.number entry.exception))
-    (here scope).throws)
-
 -- the judgement on a procedure. Its body is reached at the begin label; it ends normally, where it has no value, by a return or by an
--- exception that it declares, and what is wrong with that stands at its name
+-- exception that it declares, and what is wrong with that stands at its name. 13: where it has more than one exit, its normal exit and its
+-- return being one, these two flow to the end label, and each exception that is declared to its own, in their order
 abbrev pub procedure_judgement : Scope → Judgement
 procedure_judgement scope =
-    let begin : Join = one (label_of scope.program (ToBegin scope.number)) in
-    let inner : Judgement = whole begin (rule_of_block scope false true begin (here scope).body) in
-    let valued : Bool = not (is_some (here scope).result && has_exit inner.exits Normal) in
-    let declared : Bool = list_all (has_exit (Normal ∷ Return ∷ map Throw (declared_by (here scope).throws))) inner.exits in
+    let procedure : ProcedureEntry = procedure_at scope.program scope.number in
+    let begin : Join = label_of scope.program (ToBegin scope.number) ∷ [] in
+    let inner : Judgement = whole begin (rule_of_block scope false true begin procedure.body) in
+    let end : Join → Target → List Demand = demand scope.program procedure.at 13 in
+    let ends : List Demand = end (inner.labels Normal ++ inner.labels Return) (ToEnd scope.number)
+    ++ flat_map (λ exception. end (inner.labels (Throw exception)) (ToThrown scope.number exception)) (declared_by procedure.throws) in
+    let one_end : Bool = one_exit (map (λ exit. if same_exit Return exit then Normal else exit) inner.exits) in
+    let valued : Bool = not (is_some procedure.result && has_exit inner.exits Normal) in
+    let declared : Bool = list_all (has_exit (Normal ∷ Return ∷ map Throw (declared_by procedure.throws))) inner.exits in
     record inner {
-      demands = inner.demands ++ exit_demands scope inner.exits inner.labels;
-      faults = inner.faults ++ fault_unless valued NoValueReturned (here scope).at ++ fault_unless declared Undeclared (here scope).at;
+      demands = inner.demands ++ (if one_end then [] else ends);
+      faults = inner.faults ++ fault_unless valued NoValueReturned procedure.at ++ fault_unless declared Undeclared procedure.at;
     }
+
+-- the judgement on a program, procedure by procedure; the first fault is the one that is reported
+abbrev pub program_judgement : Program → Judgement
+program_judgement program =
+    fold (λ before (number, _). before & procedure_judgement (record { program = program; number = number })) (ending [] [])
+    (enumerate_from 0 program.procedures)
+
+-- a demand holds under a labelling, which gives each label that is not written: what is on its left flows to what is on its right
+abbrev pub Holds : PrincipalHierarchy → (labelling : Unwritten → Label) → Demand → Type 0
+Holds h labelling d = FlowsTo h (flat_map (value labelling) d.left) (value labelling d.right)
+
+-- a labelled program: all that it demands holds under some labelling
+abbrev pub Labelled : Program → Type 0
+Labelled program = (labelling : Unwritten → Label) × All (Holds program.hierarchy labelling) (program_judgement program).demands
+
+-- ---- the parts of the rules, by which proofs speak of them
+
+-- the demands on arguments that are evaluated at q, from parameter i on
+abbrev pub argument_demands : Scope → (at : ℕ) → (q : Join) → (callee i : ℕ) → List Expression → List Demand
+argument_demands scope at q callee i [] = []
+argument_demands scope at q callee i (e ∷ rest) =
+    demand scope.program at 6 (q ++ value_label scope e) (ToParameter callee i) ++ argument_demands scope at q callee (suc i) rest
 
 -- the judgement on a program's procedures from number f on
 abbrev pub judgement_from : Program → (f : ℕ) → List ProcedureEntry → Judgement
@@ -262,19 +264,31 @@ judgement_from program f [] = ending [] []
 judgement_from program f (procedure ∷ rest) =
     procedure_judgement (record { program = program; number = f }) & judgement_from program (suc f) rest
 
--- what a program demands
+-- what a program demands, and all faults of its exits
 abbrev pub program_demands : Program → List Demand
-program_demands program = (judgement_from program 0 program.procedures).demands
+program_demands program = (program_judgement program).demands
 
--- all faults of a program's exits; the first is the one that is reported
 abbrev pub exit_faults : Program → List (RefusalAt ExitRefusalKind)
-exit_faults program = (judgement_from program 0 program.procedures).faults
+exit_faults program = (program_judgement program).faults
 
--- a labelled program: all that it demands holds under some labelling, which gives each label that is not written
-abbrev pub Labelled : Program → Type 0
-Labelled program = (labelling : Unwritten → Label) × FitsAll (label_lattice program.hierarchy) (program_demands program) labelling
+-- the label of a variable
+abbrev pub variable_label : Scope → Variable → Join
+variable_label scope x = label_of scope.program (ToVariable scope.number x) ∷ []
 
--- ---- the parts of the rules, by which proofs speak of them
+-- the join of one label
+abbrev pub one : Atom Unwritten Label → Join
+one atom = atom ∷ []
+
+abbrev pub here : Scope → ProcedureEntry
+here scope = procedure_at scope.program scope.number
+
+-- the demands on the exits of a procedure's body
+abbrev pub exit_demands : Scope → (exits : List Exit) → ExitLabels → List Demand
+exit_demands scope exits x =
+    if one_exit (map (λ exit. if same_exit Return exit then Normal else exit) exits) then []
+    else (demand scope.program (here scope).at 13 (x Normal ++ x Return) (ToEnd scope.number)
+    ++ flat_map (λ (entry : ThrownEntry). demand scope.program (here scope).at 13 (x (Throw entry.exception)) (ToThrown scope.number entry.exception))
+    (here scope).throws)
 
 -- a label that is written, or one that is not; and the written one, or else the other
 abbrev pub LabelAtom : Type 0
@@ -310,6 +324,9 @@ label_under labelling atom = value labelling atom
 abbrev pub join_under : Labelling → Join → Label
 join_under labelling join = join_of (λ a b. a ++ b) [] labelling join
 
--- demands that hold under a labelling
+-- demands that hold under a labelling by the test of flow, and a program that is labelled by it
 abbrev pub FitsDemands : PrincipalHierarchy → Labelling → List Demand → Type 0
 FitsDemands h labelling demands = FitsAll (label_lattice h) demands labelling
+
+abbrev pub LabelledByTests : Program → Type 0
+LabelledByTests program = (labelling : Labelling) × FitsDemands program.hierarchy labelling (program_demands program)

@@ -3,12 +3,13 @@
 -- Source: our own; a big-step meaning with fuel, as textbooks give it for programs that may not end.
 use Rattle.common.specs.Functions.{updated}
 use Rattle.std.specs.Prelude.{ℕ, zero, suc, List, [], ◌∷◌, ◌++◌, ℤ, ◌==◌, if◌then◌else◌, Option, Some, None, map, replicate, slice_get, slice_set, unwrap_or, option_map}
+use Rattle.std.specs.Option.{option_map_or}
 use Rattle.common.specs.declared.limits.TheConstants.{MAX_FRAMES}
 use Rattle.common.specs.declared.sent.Pair.{Pair}
 use Rattle.resolved.specs.declared.expression.Variable.{Variable}
 use Rattle.resolved.specs.declared.expression.Variable.TheVariants.{Local}
-use Rattle.resolved.specs.declared.expression.Value.{Value}
-use Rattle.resolved.specs.declared.expression.Value.TheVariants.{Number}
+use Rattle.common.specs.declared.value.Value.{Value}
+use Rattle.common.specs.declared.value.Value.TheVariants as value
 use Rattle.resolved.specs.declared.statement.Exit.{Exit}
 use Rattle.resolved.specs.declared.statement.Exit.TheVariants.{Normal, Return, Break, Continue, Throw}
 use Rattle.common.specs.declared.direction.Direction.{Direction}
@@ -16,7 +17,9 @@ use Rattle.common.specs.declared.direction.Direction.TheVariants.{Input, Output}
 use Rattle.resolved.specs.Tree.{Statement, Assign, Clear, Store, Receive, Send, Call, If, While, Leave, ReturnWith, Try, Nested, Block, Empty, Then, Handlers, NoMore, Catch}
 use Rattle.resolved.specs.Program.{Program, GlobalEntry, SlotEntry, ProcedureEntry, channel_at, procedure_at}
 use Rattle.resolved.specs.WellFormed.{cell_count}
-use Rattle.resolved.specs.Value.{Evaluated, Yields, Raises, number_in, truth_in, zero_value, base_of, checked_index}
+use Rattle.common.specs.Values.{number_in, truth_in, zero_of, kind_of}
+use Rattle.resolved.specs.Exits.{same_exit, has_exit}
+use Rattle.resolved.specs.Value.{Evaluated, Yields, Raises, checked_index}
 use Rattle.resolved.specs.SourceState.{World, SourceState, cells, with_cells, value_of, values_of}
 use Rattle.common.specs.declared.exceptions.TheConstants.{END}
 
@@ -35,23 +38,19 @@ pub data Outcome : Type 0 where
 abbrev pub normally : SourceState → Outcome
 normally s = Ended Normal None s
 
--- goes on after a normal exit, with the value that a call has returned; every other exit stays
-abbrev pub onward : Outcome → (Option Value → SourceState → Outcome) → Outcome
-onward (Ended Normal returned s) next = next returned s
-onward other next = other
+-- goes on after an end by one of these exits; an end by another one stays, and so does a stop
+abbrev pub onward : (exits : List Exit) → Outcome → (Exit → Option Value → SourceState → Outcome) → Outcome
+onward exits (Ended exit returned s) next = if has_exit exits exit then next exit returned s else Ended exit returned s
+onward exits (Stopped stop s) next = Stopped stop s
 
 -- goes on with what was evaluated; an exception is the exit
 abbrev pub evaluated : {A : Type 0} → Evaluated A → SourceState → (A → Outcome) → Outcome
 evaluated (Yields v) s next = next v
 evaluated (Raises exception) s next = Ended (Throw exception) None s
 
--- goes on after the body of a loop where that ended normally or by `continue`; `break` is the normal exit of the loop, and every
--- other exit stays
+-- goes on after the body of a loop where that ended normally or by `continue`; `break` is the normal exit of the loop
 abbrev pub looped : Outcome → (SourceState → Outcome) → Outcome
-looped (Ended Normal returned s) again = again s
-looped (Ended Continue returned s) again = again s
-looped (Ended Break returned s) again = normally s
-looped other again = other
+looped body again = onward (Normal ∷ Break ∷ Continue ∷ []) body (λ exit returned s. if same_exit Break exit then normally s else again s)
 
 -- a loop of at most k rounds, by the value of its condition and by what its body does; where the condition is true once more,
 -- the run is out of fuel
@@ -67,19 +66,17 @@ caught other handle = other
 -- the state in which a target, if there is one, has the value that was received or returned. In a well-formed program without a
 -- fault of its exits there is a value wherever there is a target
 abbrev pub given_to : Option Variable → Option Value → SourceState → SourceState
-given_to None returned s = s
-given_to (Some x) None s = s
 given_to (Some x) (Some v) s = with_cells s x (v ∷ [])
+given_to target returned s = s
 
 -- takes the next number of an input, or raises `End`
 abbrev pub received : List ℤ → (channel : ℕ) → Option Variable → SourceState → Outcome
 received [] channel target s = Ended (Throw END) None s
-received (z ∷ rest) channel target s = normally (given_to target (Some (Number z)) (record s { inputs = updated s.inputs channel rest }))
+received (z ∷ rest) channel target s = normally (given_to target (Some (value.Int z)) (record s { inputs = updated s.inputs channel rest }))
 
 -- what a call comes to by what the procedure's body does: a return is the normal exit of the call, and the caller has its frame again
 abbrev pub leaving : (SourceState → SourceState) → Outcome → Outcome
-leaving back (Ended Return returned s) = Ended Normal returned (back s)
-leaving back (Ended exit returned s) = Ended exit returned (back s)
+leaving back (Ended exit returned s) = Ended (if same_exit Return exit then Normal else exit) returned (back s)
 leaving back (Stopped stop s) = Stopped stop (back s)
 
 -- what the call of a procedure with these arguments does
@@ -91,7 +88,7 @@ Calls = (procedure : ℕ) → List Value → SourceState → Outcome
 abbrev mutual
   pub statement_meaning : Calls → (k : ℕ) → Statement → SourceState → Outcome
   statement_meaning calls k (Assign at x e) s = evaluated (value_of s e) s (λ v. normally (with_cells s x (v ∷ [])))
-  statement_meaning calls k (Clear at slot) s = normally (with_cells s (Local slot) (map (λ v. zero_value (base_of v)) (s.locals slot)))
+  statement_meaning calls k (Clear at slot) s = normally (with_cells s (Local slot) (map (λ v. zero_of (kind_of v)) (s.locals slot)))
   statement_meaning calls k (Store at array length index e) s =
       evaluated (value_of s index) s (λ v.
       evaluated (value_of s e) s (λ w.
@@ -102,7 +99,7 @@ abbrev mutual
       evaluated (value_of s e) s (λ v.
       normally (record s { sent = s.sent ++ (record { channel = channel; number = number_in v } ∷ []) }))
   statement_meaning calls k (Call at procedure arguments target) s =
-      evaluated (values_of s arguments) s (λ vs. onward (calls procedure vs s) (λ returned t. normally (given_to target returned t)))
+      evaluated (values_of s arguments) s (λ vs. onward (Normal ∷ []) (calls procedure vs s) (λ exit returned t. normally (given_to target returned t)))
   statement_meaning calls k (If at e then_block else_block) s =
       evaluated (value_of s e) s (λ v.
       if truth_in v then block_meaning calls k then_block s else block_meaning calls k else_block s)
@@ -115,7 +112,7 @@ abbrev mutual
 
   pub block_meaning : Calls → (k : ℕ) → Block → SourceState → Outcome
   block_meaning calls k Empty s = normally s
-  block_meaning calls k (Then statement rest) s = onward (statement_meaning calls k statement s) (λ returned. block_meaning calls k rest)
+  block_meaning calls k (Then statement rest) s = onward (Normal ∷ []) (statement_meaning calls k statement s) (λ exit returned. block_meaning calls k rest)
 
   -- the first handler of the exception; without one it goes on
   pub handlers_meaning : Calls → (k : ℕ) → Handlers → (exception : ℕ) → SourceState → Outcome
@@ -125,9 +122,8 @@ abbrev mutual
 
 -- the cells of a slot of a new frame: the argument of a parameter, and 0 or `false` of a local
 abbrev pub first_cells_of_slots : Option SlotEntry → Option Value → List Value
-first_cells_of_slots None argument = []
-first_cells_of_slots (Some slot) (Some v) = v ∷ []
-first_cells_of_slots (Some slot) None = replicate (cell_count slot.size) (zero_value slot.base)
+first_cells_of_slots found argument =
+    option_map_or (λ (slot : SlotEntry). option_map_or (λ v. v ∷ []) argument (replicate (cell_count slot.size) (zero_of slot.base))) found []
 
 -- the calls of a program where this many more frames may be made, each of which is new; a call beyond them is deep
 abbrev pub calls_with : Program → (k frames : ℕ) → Calls
@@ -176,10 +172,10 @@ thrown exception s = Ended (Throw exception) None s
 
 -- goes on after a normal exit, and gives the value of a call to its target
 abbrev pub after : Outcome → (SourceState → Outcome) → Outcome
-after outcome next = onward outcome (λ returned. next)
+after outcome next = onward (Normal ∷ []) outcome (λ exit returned. next)
 
 abbrev pub returned_to : Option Variable → Outcome → Outcome
-returned_to target outcome = onward outcome (λ returned s. normally (given_to target returned s))
+returned_to target outcome = onward (Normal ∷ []) outcome (λ exit returned s. normally (given_to target returned s))
 
 -- adds a pair to what was sent
 abbrev pub sending : (channel : ℕ) → Value → SourceState → SourceState

@@ -6,7 +6,7 @@ use Rattle.std.specs.Prelude.{◌≡◌, ℕ, List, [], ◌∷◌, Some, None, I
 use Rattle.labels.specs.Label.{Label}
 use Rattle.common.specs.declared.base_type.BaseType.TheVariants.{Int, Boolean}
 use Rattle.common.specs.declared.operator.Connective.TheVariants.{And}
-use Rattle.resolved.specs.declared.expression.Operator.TheVariants.{Compute, Compare}
+use Rattle.common.specs.declared.operator.Operator.TheVariants.{Compute, Compare}
 use Rattle.common.specs.declared.operator.Arithmetic.TheVariants.{Divide}
 use Rattle.common.specs.declared.operator.Comparison.TheVariants.{Ordered, Matched}
 use Rattle.common.specs.declared.operator.Order.TheVariants.{LessThan, GreaterThan}

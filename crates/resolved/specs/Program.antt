@@ -1,12 +1,12 @@
 -- A resolved program: its hierarchy, and the tables in which the numbers of its tree are looked up.
 -- Source: our own; procedures with begin, end and exception labels as in JFlow (Myers 1999).
-use Rattle.std.specs.Prelude.{ℕ, List, [], pos, Option, None, slice_index_or}
+use Rattle.std.specs.Prelude.{ℕ, List, [], Option, None, slice_index_or}
 use Rattle.principals.specs.ActsFor.{PrincipalHierarchy}
 use Rattle.labels.specs.Label.{Label}
 use Rattle.common.specs.declared.base_type.BaseType.{BaseType}
 use Rattle.common.specs.declared.base_type.BaseType.TheVariants.{Int}
-use Rattle.resolved.specs.declared.expression.Value.{Value}
-use Rattle.resolved.specs.declared.expression.Value.TheVariants.{Number}
+use Rattle.common.specs.declared.value.Value.{Value}
+use Rattle.common.specs.Values.{zero_of}
 use Rattle.common.specs.declared.direction.Direction.{Direction}
 use Rattle.common.specs.declared.direction.Direction.TheVariants.{Output}
 use Rattle.resolved.specs.Tree.{Block, Empty}
@@ -73,21 +73,11 @@ abbrev pub channel_at : Program → ℕ → ChannelEntry
 channel_at program channel = slice_index_or program.channels channel (record { direction = Output; name = []; label = [] })
 
 abbrev pub global_at : Program → ℕ → GlobalEntry
-global_at program n = slice_index_or program.globals n (record { name = []; base = Int; size = None; label = []; first = Number (pos 0) })
+global_at program n = slice_index_or program.globals n (record { name = []; base = Int; size = None; label = []; first = zero_of Int })
 
 abbrev pub slot_at : ProcedureEntry → ℕ → SlotEntry
 slot_at procedure n = slice_index_or procedure.slots n (record { base = Int; size = None; written = None; at = 0; name = [] })
 
 abbrev pub procedure_at : Program → ℕ → ProcedureEntry
-procedure_at program f = slice_index_or program.procedures f (record {
-  at = 0;
-  name = [];
-  result = None;
-  begin_label = [];
-  end_label = [];
-  throws = [];
-  parameters = 0;
-  slots = [];
-  loops = 0;
-  body = Empty;
-})
+procedure_at program f = slice_index_or program.procedures f
+    (record { at = 0; name = []; result = None; begin_label = []; end_label = []; throws = []; parameters = 0; slots = []; loops = 0; body = Empty })

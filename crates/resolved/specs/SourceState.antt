@@ -2,14 +2,18 @@
 -- Source: our own; the big-step meaning of expressions of textbooks, with exceptions.
 use Rattle.common.specs.Functions.{updated}
 use Rattle.common.specs.Results.{◌>>=◌}
-use Rattle.std.specs.Prelude.{ℕ, List, [], ◌∷◌, ℤ, pos, map, slice_index_or, slice_set, if◌then◌else◌}
+use Rattle.std.specs.Prelude.{ℕ, List, [], ◌∷◌, ℤ, map, slice_index_or, slice_set, ok_or, if◌then◌else◌}
 use Rattle.common.specs.declared.sent.Pair.{Pair}
 use Rattle.resolved.specs.declared.expression.Variable.{Variable}
 use Rattle.resolved.specs.declared.expression.Variable.TheVariants.{Global, Local}
-use Rattle.resolved.specs.declared.expression.Value.{Value}
-use Rattle.resolved.specs.declared.expression.Value.TheVariants.{Number, Truth}
+use Rattle.common.specs.declared.base_type.BaseType.TheVariants.{Int}
+use Rattle.common.specs.declared.value.Value.{Value}
+use Rattle.common.specs.declared.value.Value.TheVariants as value
 use Rattle.resolved.specs.Tree.{Expression, Integer, Logical, Read, Element, Unary, Binary, Short}
-use Rattle.resolved.specs.Value.{Evaluated, Yields, literal_number, zero_value, base_of, prefix_value, operator_value, decides, checked_index}
+use Rattle.common.specs.Values.{zero_of, kind_of}
+use Rattle.common.specs.Operators.{prefix_value, operator_value}
+use Rattle.common.specs.declared.exceptions.TheConstants.{ARITH}
+use Rattle.resolved.specs.Value.{Evaluated, Yields, literal_number, decides, checked_index}
 
 -- a world: the numbers of each input channel
 abbrev pub World : Type 0
@@ -32,24 +36,21 @@ abbrev pub with_cells : SourceState → Variable → List Value → SourceState
 with_cells s (Global n) values = record s { globals = updated s.globals n values }
 with_cells s (Local n) values = record s { locals = updated s.locals n values }
 
--- a cell of a list, which in a well-formed program is there
-abbrev pub cell_at : List Value → ℕ → Value
-cell_at values i = slice_index_or values i (Number (pos 0))
-
--- the value of an expression, or the exception of the first part that raises one, left operands first
+-- the value of an expression, or the exception of the first part that raises one, left operands first: an operator without a value
+-- raises `Arith`. A cell that is read is there in every well-formed program
 abbrev pub value_of : SourceState → Expression → Evaluated Value
-value_of s (Integer n) = Yields (Number (literal_number n))
-value_of s (Logical b) = Yields (Truth b)
-value_of s (Read x) = Yields (cell_at (cells s x) 0)
+value_of s (Integer n) = Yields (value.Int (literal_number n))
+value_of s (Logical b) = Yields (value.Bool b)
+value_of s (Read x) = Yields (slice_index_or (cells s x) 0 (zero_of Int))
 value_of s (Element array length index) = do
   v ← value_of s index
   i ← checked_index v length
-  Yields (cell_at (cells s array) i)
+  Yields (slice_index_or (cells s array) i (zero_of Int))
 value_of s (Unary prefix e) = value_of s e >>= λ v. Yields (prefix_value prefix v)
 value_of s (Binary operator d e) = do
   v ← value_of s d
   w ← value_of s e
-  operator_value operator v w
+  ok_or (operator_value operator v w) ARITH
 value_of s (Short connective d e) = value_of s d >>= λ v. if decides connective v then Yields v else value_of s e
 
 -- the values of arguments, from the left
@@ -62,6 +63,10 @@ values_of s (e ∷ rest) = do
 
 -- ---- parts of the meaning of statements, by which proofs speak of them
 
+-- a cell of a list, which in a well-formed program is there
+abbrev pub cell_at : List Value → ℕ → Value
+cell_at values i = slice_index_or values i (zero_of Int)
+
 -- a state in which a scalar has another value, and one in which an element has
 abbrev pub assigned : SourceState → Variable → Value → SourceState
 assigned s x v = with_cells s x (v ∷ [])
@@ -71,4 +76,4 @@ stored s array i v = with_cells s array (slice_set (cells s array) i v)
 
 -- a state in which all elements of a local array are 0 or `false`
 abbrev pub cleared : SourceState → ℕ → SourceState
-cleared s slot = with_cells s (Local slot) (map (λ v. zero_value (base_of v)) (s.locals slot))
+cleared s slot = with_cells s (Local slot) (map (λ v. zero_of (kind_of v)) (s.locals slot))

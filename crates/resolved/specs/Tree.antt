@@ -3,7 +3,7 @@
 use Rattle.std.specs.Prelude.{ℕ, Bool, List, Option}
 use Rattle.resolved.specs.declared.expression.Variable.{Variable}
 use Rattle.common.specs.declared.operator.Prefix.{Prefix}
-use Rattle.resolved.specs.declared.expression.Operator.{Operator}
+use Rattle.common.specs.declared.operator.Operator.{Operator}
 use Rattle.common.specs.declared.operator.Connective.{Connective}
 use Rattle.resolved.specs.declared.statement.Exit.{Exit}
 

@@ -11,21 +11,21 @@ use Rattle.labels.specs.Label.{Label, ReaderPolicy}
 use Rattle.common.specs.declared.base_type.BaseType.{BaseType}
 use Rattle.common.specs.declared.base_type.BaseType.TheVariants.{Int, Boolean}
 use Rattle.common.specs.contracts.base_type.BaseTypePartialEq.TheImpl.{eq-value}
-use Rattle.resolved.specs.declared.expression.Value.{Value}
-use Rattle.resolved.specs.declared.expression.Value.TheVariants.{Number, Truth}
+use Rattle.common.specs.declared.value.Value.{Value}
+use Rattle.common.specs.declared.value.Value.TheVariants as value
 use Rattle.resolved.specs.declared.expression.Variable.{Variable}
 use Rattle.resolved.specs.declared.expression.Variable.TheVariants.{Global, Local}
 use Rattle.common.specs.declared.operator.Prefix.{Prefix}
 use Rattle.common.specs.declared.operator.Prefix.TheVariants.{Negate, Not}
-use Rattle.resolved.specs.declared.expression.Operator.{Operator}
-use Rattle.resolved.specs.declared.expression.Operator.TheVariants.{Compute, Compare, Match}
+use Rattle.common.specs.declared.operator.Operator.{Operator}
+use Rattle.common.specs.declared.operator.Operator.TheVariants.{Compute, Compare, Match}
 use Rattle.common.specs.declared.direction.Direction.{Direction}
 use Rattle.common.specs.declared.direction.Direction.TheVariants.{Input, Output}
 use Rattle.resolved.specs.declared.statement.Exit.{Exit}
 use Rattle.resolved.specs.declared.statement.Exit.TheVariants.{Normal, Return, Break, Continue, Throw}
 use Rattle.resolved.specs.Tree.{Expression, Integer, Logical, Read, Element, Unary, Binary, Short, Statement, Assign, Clear, Store, Receive, Send, Call, If, While, Leave, ReturnWith, Try, Nested, Block, Empty, Then, Handlers, NoMore, Catch}
 use Rattle.resolved.specs.Program.{Program, ProcedureEntry, SlotEntry, ResultEntry, ThrownEntry, ChannelEntry, GlobalEntry}
-use Rattle.resolved.specs.Value.{base_of}
+use Rattle.common.specs.Values.{kind_of}
 use Rattle.common.specs.Integers.{is_zero}
 
 -- ---- types
@@ -247,11 +247,11 @@ throws_fit program (entry ∷ rest) =
 
 -- 401 wrong type: the first value of a global is of its base type, and that of an array is 0 or `false`
 abbrev pub is_zero_value : Value → Bool
-is_zero_value (Number z) = is_zero z
-is_zero_value (Truth b) = not b
+is_zero_value (value.Int z) = is_zero z
+is_zero_value (value.Bool b) = not b
 
 abbrev pub first_fits : GlobalEntry → Bool
-first_fits entry = same_base (base_of entry.first) entry.base && (is_none entry.size || is_zero_value entry.first)
+first_fits entry = same_base (kind_of entry.first) entry.base && (is_none entry.size || is_zero_value entry.first)
 
 -- 304 no proper main: a procedure at which a run can begin, without parameters and a value
 abbrev pub main_fits : Option ProcedureEntry → Bool

@@ -1,30 +1,12 @@
 //! Expressions and what they are made of.
 
-use common::{Arithmetic, Comparison, Connective, Prefix, Sameness};
+use common::{Connective, Operator, Prefix};
 
 /// A variable, a parameter or an array: a global, or a slot of the frame, by its number.
 #[derive(Clone, Copy, Debug, PartialEq, Eq)]
 pub enum Variable {
     Global(u32),
     Local(u32),
-}
-
-/// A value: a number of 32 bits or a truth value.
-#[derive(Clone, Copy, Debug, PartialEq, Eq)]
-pub enum Value {
-    Number(i32),
-    Truth(bool),
-}
-
-/// An operator that always evaluates both operands.
-#[derive(Clone, Copy, Debug, PartialEq, Eq)]
-pub enum Operator {
-    /// A number of two numbers, or the exception `Arith` where the divisor is 0.
-    Compute(Arithmetic),
-    /// A truth value of two numbers.
-    Compare(Comparison),
-    /// A truth value of two truth values.
-    Match(Sameness),
 }
 
 /// An expression. Parentheses leave no trace.

@@ -1,20 +1,21 @@
 //! Laws of the definitions, each the contract of a function that does nothing.
-ghost use Rattle.lattices.specs.Constraints.{FitsAll, IsRefusedAt, StandsFor, reported_gathered, reported_steps};
+ghost use Rattle.lattices.specs.Constraints.{FitsAll, IsRefusedAt, StandsFor, holds, reported_gathered, reported_steps};
 ghost use Rattle.labels.specs.LabelLattice.{label_lattice};
 ghost use Rattle.labels.specs.Label.{Label, ReaderPolicy};
+ghost use Rattle.principals.specs.ActsFor.{PrincipalHierarchy};
 ghost use Rattle.resolved.specs.BitUse.{expression_uses_bits, procedures_use_bits, statement_uses_bits, uses_bits};
 ghost use Rattle.resolved.specs.ExitFaults.{procedure_faults, statement_faults};
 ghost use Rattle.resolved.specs.Exits.{statement_exits};
 ghost use Rattle.resolved.specs.Flow.{AreGathered, AreLeast, FlowBothWays, Gathered, IsFlowChain, IsProgramRefused, IsUncovered, reported_step};
 ghost use Rattle.resolved.specs.Kinds.{MeaningKeepsTypes, RunsBeginTyped, ValuesHaveTheirTypes};
 ghost use Rattle.resolved.specs.LabelRules.{demands_from, statement_demands, statement_exit_labels};
-ghost use Rattle.resolved.specs.Labelled.{Demand, Join, Labelled, Scope, Unwritten, exit_faults, program_demands, rule_of, whole};
+ghost use Rattle.resolved.specs.Labelled.{Demand, FitsDemands, Holds, Join, Labelled, LabelledByTests, Labelling, Scope, Unwritten, exit_faults, program_demands, rule_of, whole};
 ghost use Rattle.resolved.specs.Precise.{IsAcceptable, handler_of_one, raising_argument, short_circuit, two_normal_exits};
 ghost use Rattle.resolved.specs.Program.{Program};
 ghost use Rattle.resolved.specs.Tree.{Statement};
 ghost use Rattle.resolved.specs.declared.statement.Exit.{Exit};
 ghost use Rattle.std.specs.List.{list_any};
-ghost use Rattle.std.specs.Prelude.{Bool, Contains, List, flat_map, ℕ, ◌≡◌, ◌↔◌, ◌⊎◌};
+ghost use Rattle.std.specs.Prelude.{All, Bool, Contains, IsTrue, List, flat_map, ℕ, ◌≡◌, ◌↔◌, ◌⊎◌};
 
 /// In a state that fits the tables, an expression of a base type has a value of that type or raises an exception; the meaning of
 /// what fits goes from states that fit to states that fit; and a run begins in one. So no operator, condition, index, argument,
@@ -24,6 +25,15 @@ pub fn values_keep_their_types()
     ensures values { ValuesHaveTheirTypes }
     ensures meaning { MeaningKeepsTypes }
     ensures begin { RunsBeginTyped }
+{}
+
+/// A demand holds where the test of flow says so, and a program is labelled where the tests of all its demands do.
+pub fn tests_decide_demands()
+    ensures holds { (h : PrincipalHierarchy) (labelling : Labelling) (d : Demand) →
+        IsTrue (holds (label_lattice h) labelling d) ↔ Holds h labelling d }
+    ensures fits { (h : PrincipalHierarchy) (labelling : Labelling) (demands : List Demand) →
+        FitsDemands h labelling demands ↔ All (Holds h labelling) demands }
+    ensures labelled { (program : Program) → LabelledByTests program ↔ Labelled program }
 {}
 
 /// Every program is labelled or refused, and not both. Its locals and loops have least labels, which are unique up to flow both ways

@@ -1,9 +1,8 @@
 //! The tables in which the numbers of a tree are looked up.
 
-use crate::expression::Value;
 use crate::slot_name::SlotName;
 use crate::statement::Statement;
-use common::{BaseType, Direction};
+use common::{BaseType, Direction, Value};
 
 /// An input or an output.
 #[derive(Drop)]

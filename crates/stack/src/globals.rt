@@ -18,7 +18,7 @@ pub struct Globals {
 }
 
 impl Model for Globals {
-    ghost use Rattle.modules.specs.declared.value.Cell.{Cell};
+    ghost use Rattle.common.specs.declared.value.Value.{Value as Cell};
     ghost use Rattle.stack.specs.Slab.{cut, total};
     ghost use Rattle.std.specs.Prelude.{List, length, ◌≤◌};
 

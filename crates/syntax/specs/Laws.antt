@@ -1,11 +1,10 @@
 -- Laws of the spelling of programs.
 -- Source: our own.
-use Rattle.std.specs.Prelude.{◌≡◌, ℕ, ◌≤◌, Bool, List, [], ◌∷◌, length, slice_index_or, map, Some, All, Contains}
+use Rattle.std.specs.Prelude.{◌≡◌, ℕ, ◌≤◌, Bool, List, [], ◌∷◌, length, slice_index_or, map, All, Contains}
 use Rattle.lexer.specs.Listing.{IsSpelled}
 use Rattle.lexer.specs.Terminal.{Terminal, IsTerminated}
-use Rattle.lexer.specs.TokenKind.{TokenKind, word_of}
-use Rattle.syntax.specs.Form.{Form, table}
-use Rattle.syntax.specs.Grammar.{SpellsProgram, Spelled, base, direction, truth, signs, lines}
+use Rattle.syntax.specs.Form.{Form, give, one_of, ◌·◌}
+use Rattle.syntax.specs.Grammar.{SpellsProgram, Spelled, here, paired, base, direction, truth, signs, lines}
 use Rattle.syntax.specs.Nesting.{IsNested}
 use Rattle.syntax.specs.Nodes.{program_nodes}
 use Rattle.common.specs.declared.base_type.BaseType.{BaseType}
@@ -44,13 +43,13 @@ SpelledIsWritten =
     → IsWritten (Contains (map (λ token. token.start) tokens)) (IsNameWithin longest) IsInteger tree
 
 -- one token spells the tree by this form, and the place of the token
-abbrev pub SpellsAlone : {A : Type 0} → Form (ℕ × A) → Terminal → A → Type 0
-SpellsAlone F token tree = Spelled F 0 0 (token ∷ []) (token.start, tree) []
+abbrev pub SpellsAlone : {A : Type 0} → Form A → Terminal → A → Type 0
+SpellsAlone F token tree = Spelled (give paired · here · F) 0 0 (token ∷ []) (token.start, tree) []
 
 -- the grammar leaves nothing out: each operator, base type, truth value and direction has a token
 pub record EachIsThere : Type 0 where
-  pub binary : (operator : BinaryOperator) → (line : ℕ) × (kind : TokenKind) × (table (slice_index_or lines line []) (word_of kind) ≡ Some operator)
-  pub unary : (operator : Prefix) → (kind : TokenKind) × (table signs (word_of kind) ≡ Some operator)
+  pub binary : (operator : BinaryOperator) → (line : ℕ) × (token : Terminal) × SpellsAlone (one_of (slice_index_or lines line [])) token operator
+  pub unary : (operator : Prefix) → (token : Terminal) × SpellsAlone (one_of signs) token operator
   pub base : (tree : BaseType) → (token : Terminal) × SpellsAlone base token tree
   pub truth : (tree : Bool) → (token : Terminal) × SpellsAlone truth token tree
   pub direction : (tree : Direction) → (token : Terminal) × SpellsAlone direction token tree

@@ -1,4 +1,5 @@
 -- The labels of the channels of a program are canonical, and its hierarchy is the one under which it is resolved.
+use Rattle.types.proofs.Together.{policy_together}
 use Rattle.std.proofs.Common.{◌≡◌, refl, sym, subst, ℕ, zero, suc, List, [], ◌∷◌}
 use Rattle.std.specs.Prelude.{All, IfOk, IfSome, slice_get, codes}
 use Rattle.std.proofs.lemmas.List.Elements.{All-nil, All-cons, All-head, All-tail, All-append}
@@ -57,8 +58,9 @@ module _ (scope : LabelScope) (globals : (number : ℕ) → IfSome (slice_get sc
   component_canonical : (component : ComponentTree) → IfOk (component_finding scope component) (All IsCanonicalPolicy)
   unfolding component_finding
   component_canonical (PolicyComponent owner readers) =
-      then_finds (policy_finding scope.hierarchy owner readers) _ IsCanonicalPolicy (All IsCanonicalPolicy) (policy_canonical scope.hierarchy owner readers)
-      (λ policy is. All-cons IsCanonicalPolicy policy [] is (All-nil IsCanonicalPolicy))
+      subst (λ looked. IfOk looked (All IsCanonicalPolicy)) (sym (policy_together scope owner readers))
+      (then_finds (policy_finding scope.hierarchy owner readers) _ IsCanonicalPolicy (All IsCanonicalPolicy) (policy_canonical scope.hierarchy owner readers)
+      (λ policy is. All-cons IsCanonicalPolicy policy [] is (All-nil IsCanonicalPolicy)))
   component_canonical (VariableComponent name) =
       then_finds (use_as variable_of (scope.names name.text) name.at) _ (λ one. Unit {0}) _ (any_finds (use_as variable_of (scope.names name.text) name.at))
       (λ variable nothing.

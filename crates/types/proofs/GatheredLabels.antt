@@ -1,4 +1,5 @@
 -- A label that is gathered component by component, its own policies apart from the numbers of the labels that it names.
+use Rattle.types.proofs.Together.{policy_together}
 use Rattle.std.proofs.Common.{◌≡◌, ℕ, ◌+◌, ◌<◌, ◌≤◌, List, [], ◌∷◌, ◌++◌, map, length, get_or, Ok, sym, ◌∙◌, ap, subst, inl, inr, append_assoc, append-nil}
 use Rattle.std.specs.Prelude.{All, Contains}
 use Rattle.std.proofs.lemmas.Grind.{flat_map-append}
@@ -87,6 +88,7 @@ module _ {scope : LabelScope} {labels : List Label} {written : List Component} {
         let before = gathers.found in
         let step : next_component scope before (component_tree one) ≡ Ok (before ++ policy ∷ []) =
         ap (next_component scope before) tree
+        ∙ ap (λ looked. and_then looked (λ policies. Ok (before ++ policies))) (policy_together scope owner readers)
         ∙ ap (λ looked. and_then (and_then looked (λ policy. Ok (policy ∷ []))) (λ policies. Ok (before ++ policies))) is_policy in
         record {
           found = before ++ policy ∷ [];
@@ -103,8 +105,9 @@ module _ {scope : LabelScope} {labels : List Label} {written : List Component} {
     policy_wrong fault wrong =
         goes_wrong gathers.made one fault is within
         (subst (λ component. IfRefused (IsRefusalOf (next_component scope gathers.found component)) fault) (sym tree)
+        (subst (λ looked. IfRefused (IsRefusalOf (and_then looked (λ policies. Ok (gathers.found ++ policies)))) fault) (sym (policy_together scope owner readers))
         (fails_later (and_then (policy_finding scope.hierarchy owner readers) (λ policy. Ok (policy ∷ []))) (λ policies. Ok (gathers.found ++ policies)) fault
-        (fails_later (policy_finding scope.hierarchy owner readers) (λ policy. Ok (policy ∷ [])) fault wrong)))
+        (fails_later (policy_finding scope.hierarchy owner readers) (λ policy. Ok (policy ∷ [])) fault wrong))))
 
   module _ (name : NameTree) (tree : component_tree one ≡ VariableComponent name) where
     pub label_gathered : (number : ℕ) → component_finding scope (VariableComponent name) ≡ Ok (label_at labels number) → Gathers scope labels written own (named ++ number ∷ []) (i + 1)

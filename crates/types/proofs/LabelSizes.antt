@@ -1,4 +1,5 @@
 -- A label that is found has each of its policies once, and each is written before it or in it: so it has no more nodes than those.
+use Rattle.types.proofs.Together.{policy_together}
 use Rattle.std.proofs.Common.{◌≡◌, sym, ap, subst, ℕ, ◌+◌, ◌≤◌, List, [], ◌∷◌, ◌++◌, length, append_assoc, true, inl, inr, Ok, Err, arith}
 use Rattle.std.specs.Prelude.{◌⊎◌, Contains, IfOk, IfSome, Option, Some, None, slice_get, sum_by}
 use Rattle.std.specs.declared.cmp.Ordering.{Ordering}
@@ -124,13 +125,14 @@ module _ (scope : LabelScope) (written : List ReaderPolicy) (globals : (number :
   component_of : (component : ComponentTree) → IfOk (component_finding scope component) (AreOf written (component_nodes component))
   unfolding component_finding
   component_of (PolicyComponent owner readers) =
-      then_finds (policy_finding scope.hierarchy owner readers) _
+      subst (λ looked. IfOk looked (AreOf written (component_nodes (PolicyComponent owner readers)))) (sym (policy_together scope owner readers))
+      (then_finds (policy_finding scope.hierarchy owner readers) _
       (λ found. (policy_fits scope.hierarchy found ≡ true) × (policy_weight scope.hierarchy found ≤ 2 + length readers)) _
       (policy_there scope.hierarchy owner readers) (λ policy there. record {
         more = policy ∷ [];
         few = omega (arith, there.1, sum_by-cons (λ (one : ReaderPolicy). 1 + length one.readers) policy []);
         within = λ other contained. Contains-append_right written (policy ∷ []) other contained;
-      })
+      }))
   component_of (VariableComponent name) =
       then_finds (use_as variable_of (scope.names name.text) name.at) _ (λ one. Unit {0}) _ (any_finds (use_as variable_of (scope.names name.text) name.at))
       (λ variable nothing.

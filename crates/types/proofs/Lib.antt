@@ -1,4 +1,5 @@
 mod Along
+mod Calls
 mod ChannelLabels
 mod Declarations
 mod Frames
@@ -20,6 +21,7 @@ mod ShortNames
 mod ReadBodies
 mod ReadExpressions
 mod Tables
+mod Together
 mod Uses
 mod WellFormedExpressions
 mod WellFormedLabels

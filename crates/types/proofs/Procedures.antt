@@ -21,13 +21,13 @@ use Rattle.types.specs.declared.fault.TypeRefusalKind.{TypeRefusalKind}
 use Rattle.types.specs.declared.scope.Meaning.{Meaning}
 use Rattle.types.specs.declared.fault.TypeRefusalKind.TheVariants as refusals
 use Rattle.common.specs.Results.{along}
-use Rattle.types.specs.Finding.{Finding, IsRefusalOf, give, require}
+use Rattle.types.specs.Finding.{Finding, IsRefusalOf, give, require, of_option}
 use Rattle.types.specs.Environment.{fresh_finding, use_as, item_of}
 use Rattle.types.specs.Labels.{LabelScope, label_finding, optional_label_finding}
 use Rattle.types.specs.declared.label.ItemContext.{ItemContext}
 use Rattle.types.specs.Views.{setting_within, item_scope, top_view}
 use Rattle.types.specs.Resolution.{heads, is_thrown, next_parameter, next_thrown, procedure_entry_finding, result_finding, joined_all}
-use Rattle.types.specs.Statements.{Signature, Point, with_local, block_finding, slot_of}
+use Rattle.types.specs.Statements.{Signature, Point, with_local, block_finding, slot_of, declared_finding}
 use Rattle.types.specs.VariableEntries.{VariableEntries, LabelPolicies, AreThrownLabelsInside, label_with}
 use Rattle.types.proofs.LabelNumbers.{same_thrown}
 use Rattle.types.proofs.Loops.{then_ok, fails_later, fails_second}
@@ -44,8 +44,9 @@ pub parameter_declared : (scope : LabelScope) (point after : Point) (parameter :
     → label_finding scope parameter.label ≡ Ok label → found ≡ point.names parameter.name.text → fresh_finding found parameter.name.at ≡ Ok tt → base ≡ parameter.base
     → slot ≡ slot_of parameter.at base (Some label) parameter.name.text None → give (with_local point slot) ≡ give after
     → next_parameter scope point parameter ≡ Ok after
+unfolding declared_finding of_option
 parameter_declared scope point after parameter label found base slot labelled looked new typed entry declared =
-    then_ok _ _ label labelled ∙ then_ok _ _ tt (sym (ap (λ one. fresh_finding one parameter.name.at) looked) ∙ new)
+    then_ok _ _ (Some label) (then_ok _ _ label labelled) ∙ then_ok _ _ tt (sym (ap (λ one. fresh_finding one parameter.name.at) looked) ∙ new)
     ∙ ap (λ b. Ok (with_local point (slot_of parameter.at b (Some label) parameter.name.text None))) (sym typed)
     ∙ ap (λ one. Ok (with_local point one)) (sym entry) ∙ declared
 

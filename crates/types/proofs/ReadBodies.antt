@@ -21,7 +21,7 @@ use Rattle.types.specs.Environment.{Environment, declaring, fresh_finding, use_a
 use Rattle.types.specs.Labels.{LabelScope, label_finding, optional_label_finding}
 use Rattle.types.specs.Expressions.{Typed, expression_finding, typed_finding}
 use Rattle.types.specs.Laws.{channel_names, global_names, MeaningHasName}
-use Rattle.types.specs.Statements.{Signature, Setting, Point, label_scope, with_local, call_finding, assigned_finding, declare_finding, size_finding, declare_array_finding, gives_base, return_finding, after_block, statement_finding, block_finding, statements_finding, catches_finding, slot_of}
+use Rattle.types.specs.Statements.{Signature, Setting, Point, label_scope, with_local, call_finding, assigned_finding, declare_finding, size_finding, declare_array_finding, gives_base, declared_finding, after_block, statement_finding, block_finding, statements_finding, catches_finding, slot_of}
 use Rattle.types.specs.Views.{CallUse, setting_within, program_with}
 use Rattle.types.proofs.NextItems.{next_channel, next_global}
 use Rattle.types.specs.Resolution.{TopLevel, heads, result_finding, next_parameter, is_thrown, next_thrown, procedure_entry_finding, channel_finding, global_finding, next_item, main_finding, resolution, empty_program, next_name, built_in, next_frame, next_global_cells}
@@ -95,15 +95,27 @@ module _ (program : Program) where
     abbrev Stays : StatementTree → Statement → Type 0
     Stays written s = ReadsStatement program scope written s scope
 
-    return_reads : (result : Option BaseType) (at : ℕ) (value : Option ExpressionTree) → IfOk (return_finding result names at value) (Stays (ReturnTree at value))
-    unfolding return_finding
-    return_reads result at None = if_finds (is_none result) (ReturnWith at None) _ at _ (λ none. ReadReturn)
-    return_reads result at (Some value) =
-        then_finds (expression_finding names value) _ (λ (found : Typed). ReadsExpression program scope value found.0) _
-        (expression_reads program scope names agrees value) (λ found reads.
-        if_finds (gives_base found.1 result) (ReturnWith at (Some found.0)) _ (expression_at value) _ (λ is. ReadReturnValue reads))
+  return_reads : (setting : Setting) (scope : NameScope) (point : Point) (at : ℕ) (value : Option ExpressionTree) → Matches scope point
+      → IfOk (statement_finding setting point (ReturnTree at value)) (StatementRead scope (ReturnTree at value))
+  unfolding statement_finding
+  return_reads setting scope point at None matches =
+      if_finds (is_none setting.result) (point, ReturnWith at None) _ at _ (λ none. record { after = scope; reads = ReadReturn; matches = matches })
+  return_reads setting scope point at (Some value) matches =
+      then_finds (expression_finding point.names value) _ (λ (found : Typed). ReadsExpression program scope value found.0) _
+      (expression_reads program scope point.names matches.agrees value) (λ found reads.
+      if_finds (gives_base found.1 setting.result) (point, ReturnWith at (Some found.0)) _ (expression_at value) _
+      (λ is. record { after = scope; reads = ReadReturnValue reads; matches = matches }))
 
   -- ---- declarations
+
+  declared_reads : (labels : LabelScope) (scope : NameScope) (point : Point) (at : ℕ) (base : BaseType) (label : Option LabelTree) (name : NameTree) (size : Option ℕ)
+      → Matches scope point
+      → IfOk (declared_finding labels point at base label name size) (Matches (with_declared scope name at))
+  unfolding declared_finding
+  declared_reads labels scope point at base label name size matches =
+      then_finds (optional_label_finding labels label) _ (λ one. Unit {0}) _ (any_finds (optional_label_finding labels label)) (λ written nothing.
+      then_finds (fresh_finding (point.names name.text) name.at) _ (λ one. Unit {0}) _ (any_finds (fresh_finding (point.names name.text) name.at))
+      (λ one nothing. local_matches scope point name (slot_of at base written name.text size) matches refl))
 
   declare_reads : (setting : Setting) (scope : NameScope) (point : Point) (at : ℕ) (base : _) (label : Option LabelTree) (name : NameTree) (right : RightTree)
       → Matches scope point
@@ -111,15 +123,14 @@ module _ (program : Program) where
   unfolding statement_finding
   declare_reads setting scope point at base label name right matches =
       let target = Local (length point.slots) in
-      then_finds (optional_label_finding (label_scope setting point) label) _ (λ one. Unit {0}) _ (any_finds (optional_label_finding (label_scope setting point) label)) (λ written nothing.
-      then_finds (fresh_finding (point.names name.text) name.at) _ (λ one. Unit {0}) _ (any_finds (fresh_finding (point.names name.text) name.at)) (λ one nothing.
+      then_finds (declared_finding (label_scope setting point) point at base label name None) _ (Matches (with_declared scope name at)) _
+      (declared_reads (label_scope setting point) scope point at base label name None matches) (λ next matches_next.
       then_finds (assigned_finding setting.signatures point.names at target base right) _ (ReadsRight program scope at target right) _
       (right_reads program scope point.names matches.agrees setting.signatures at target base right) (λ s reads. record {
         after = with_declared scope name at;
         reads = ReadDeclare (subst (λ n. ReadsRight program scope at (Local n) right s) (next_number scope point matches) reads);
-        matches =
-            local_matches scope point name (slot_of at base written name.text None) matches refl;
-      })))
+        matches = matches_next;
+      }))
 
   declare_array_reads : (setting : Setting) (scope : NameScope) (point : Point) (at : ℕ) (base : _) (label : Option LabelTree) (name : NameTree) (size : SizeTree)
       → Matches scope point
@@ -127,16 +138,15 @@ module _ (program : Program) where
   unfolding statement_finding
   declare_array_reads setting scope point at base label name size matches =
       let target = Local (length point.slots) in
-      then_finds (optional_label_finding (label_scope setting point) label) _ (λ one. Unit {0}) _ (any_finds (optional_label_finding (label_scope setting point) label)) (λ written nothing.
-      then_finds (fresh_finding (point.names name.text) name.at) _ (λ one. Unit {0}) _ (any_finds (fresh_finding (point.names name.text) name.at)) (λ one nothing.
+      then_finds (declared_finding (label_scope setting point) point at base label name (Some size.1)) _ (Matches (with_declared scope name at)) _
+      (declared_reads (label_scope setting point) scope point at base label name (Some size.1) matches) (λ next matches_next.
       then_finds (size_finding size) _ (λ one. Unit {0}) _ (any_finds (size_finding size)) (λ length_of nothing. record {
         after = with_declared scope name at;
         reads =
             subst (λ n. ReadsStatement program scope (DeclareArrayTree at base label name size) (Clear at n) (with_declared scope name at))
             (sym (next_number scope point matches)) ReadDeclareArray;
-        matches =
-            local_matches scope point name (slot_of at base written name.text (Some length_of)) matches refl;
-      })))
+        matches = matches_next;
+      }))
 
   -- ---- statements, blocks and handlers
 
@@ -202,10 +212,7 @@ module _ (program : Program) where
           then_finds (use_as (item_of Exception) (point.names exception.text) exception.at) _ (IsException program scope exception) _
           (item_reads program scope point.names matches.agrees Exception exception)
           (λ number is. record { after = scope; reads = ReadThrow is; matches = matches })
-      statement_reads scope point (ReturnTree at value) matches =
-          then_finds (return_finding setting.result point.names at value) _ (λ s. ReadsStatement program scope (ReturnTree at value) s scope) _
-          (return_reads scope point.names matches.agrees setting.result at value)
-          (λ s reads. record { after = scope; reads = reads; matches = matches })
+      statement_reads scope point (ReturnTree at value) matches = return_reads setting scope point at value matches
       statement_reads scope point (TryTree at body catches) matches =
           then_finds (block_finding setting point body) _ (BlockRead scope body) _ (block_reads scope point body matches) (λ done read.
           then_finds (catches_finding setting done.0 catches) _ (CatchesRead read.after catches) _ (catches_read read.after done.0 catches read.matches)
@@ -266,10 +273,7 @@ module _ (program : Program) where
   parameters_read labels scope point (parameter ∷ parameters) matches =
       let inside = with_declared scope parameter.name parameter.at in
       then_finds (next_parameter labels point parameter) (λ next. along (next_parameter labels) next parameters) (Matches inside) _
-      (then_finds (label_finding labels parameter.label) _ (λ one. Unit {0}) _ (any_finds (label_finding labels parameter.label)) (λ label nothing.
-      then_finds (fresh_finding (point.names parameter.name.text) parameter.name.at) _ (λ one. Unit {0}) _
-      (any_finds (fresh_finding (point.names parameter.name.text) parameter.name.at)) (λ one nothing.
-      local_matches scope point parameter.name (slot_of parameter.at parameter.base (Some label) parameter.name.text None) matches refl)))
+      (declared_reads labels scope point parameter.at parameter.base (Some parameter.label) parameter.name None matches)
       (λ next matches_next. parameters_read labels (with_declared scope parameter.name parameter.at) next parameters matches_next)
 
   -- after those that were found before

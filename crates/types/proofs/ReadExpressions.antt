@@ -11,7 +11,7 @@ use Rattle.common.specs.declared.base_type.BaseType.{BaseType}
 use Rattle.common.specs.declared.base_type.BaseType.TheVariants.{Int, Boolean}
 use Rattle.resolved.specs.declared.expression.Variable.{Variable}
 use Rattle.resolved.specs.declared.expression.Variable.TheVariants.{Global, Local}
-use Rattle.resolved.specs.declared.expression.Operator.TheVariants.{Compute, Compare, Match}
+use Rattle.common.specs.declared.operator.Operator.TheVariants.{Compute, Compare, Match}
 use Rattle.resolved.specs.Program.{Program}
 use Rattle.resolved.specs.Tree.{Expression, Call}
 use Rattle.resolved.specs.WellFormed.{same_base, prefix_base}
@@ -167,7 +167,7 @@ module _ (program : Program) where
     pub call_reads : (signatures : List Signature) (call : CallTree)
         → IfOk (call_finding signatures names call)
         (λ (made : CallUse). IsProcedure program scope call.0 made.0 × ReadsArguments program scope call.1 made.1)
-    unfolding call_finding arguments_finding
+    unfolding call_finding
     call_reads signatures call =
         then_finds (use_as (item_of Procedure) (names call.0.text) call.0.at) _ (IsProcedure program scope call.0) _
         (item_reads Procedure call.0) (λ number is.

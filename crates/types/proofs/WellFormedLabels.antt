@@ -1,5 +1,6 @@
 -- The labels that are found are of principals that are there.
-use Rattle.std.proofs.Common.{◌≡◌, refl, ◌∙◌, Ok, ℕ, zero, suc, ◌+◌, ◌≤◌, List, [], ◌∷◌, ◌++◌, length, Bool, true, false, arith}
+use Rattle.types.proofs.Together.{policy_together}
+use Rattle.std.proofs.Common.{◌≡◌, refl, ◌∙◌, Ok, ℕ, zero, suc, ◌+◌, ◌≤◌, List, [], ◌∷◌, ◌++◌, length, Bool, true, false, arith, sym, subst}
 use Rattle.std.specs.Prelude.{IfOk, IfSome, Option, Some, None, cond, filter, slice_get, sum_by, nat_lt, not, bytes_eq, ◌==◌}
 use Rattle.std.specs.List.{list_all}
 use Rattle.std.specs.declared.cmp.Ordering.{Ordering}
@@ -23,7 +24,7 @@ use Rattle.resolved.specs.WellFormed.{policy_fits, label_fits, written_fits}
 use Rattle.types.specs.Environment.{use_as, variable_of}
 use Rattle.types.specs.declared.fault.TypeRefusalKind.TheVariants as refusals
 use Rattle.common.specs.Results.{along}
-use Rattle.types.specs.Finding.{Finding, found_or, put_last}
+use Rattle.types.specs.Finding.{Finding, found_or, put_last, of_option}
 use Rattle.types.specs.Labels.{LabelScope, principal_finding, policy_finding, variable_label_finding, component_finding, next_component, label_finding, optional_label_finding}
 use Rattle.types.specs.Resolution.{joined_all}
 use Rattle.types.proofs.Passing.{then_finds, found_finds, any_finds}
@@ -192,8 +193,9 @@ module _ (scope : LabelScope) (globals_fit : GlobalsFit scope.hierarchy scope.gl
   component_there : (component : ComponentTree) → IfOk (component_finding scope component) Fits
   unfolding component_finding
   component_there (PolicyComponent owner readers) =
-      then_finds (policy_finding h owner readers) _ (λ found. (policy_fits h found ≡ true) × (policy_weight h found ≤ 2 + length readers)) Fits
-      (policy_there h owner readers) (λ policy there. and_from (policy_fits h policy) true there.0 refl)
+      subst (λ looked. IfOk looked Fits) (sym (policy_together scope owner readers))
+      (then_finds (policy_finding h owner readers) _ (λ found. (policy_fits h found ≡ true) × (policy_weight h found ≤ 2 + length readers)) Fits
+      (policy_there h owner readers) (λ policy there. and_from (policy_fits h policy) true there.0 refl))
   component_there (VariableComponent name) =
       then_finds (use_as variable_of (scope.names name.text) name.at) _ (λ one. Unit {0}) _ (any_finds (use_as variable_of (scope.names name.text) name.at))
       (λ variable nothing. variable_there variable name.at)
@@ -213,6 +215,6 @@ module _ (scope : LabelScope) (globals_fit : GlobalsFit scope.hierarchy scope.gl
       (λ policies there. set_all (policy_fits h) policy_cmp policies there)
 
   pub optional_label_there : (label : Option LabelTree) → IfOk (optional_label_finding scope label) (λ found. written_fits h found ≡ true)
-  unfolding optional_label_finding
+  unfolding of_option
   optional_label_there None = refl
   optional_label_there (Some label) = then_finds (label_finding scope label) _ Fits _ (label_there label) (λ found there. there)

@@ -10,7 +10,7 @@ use Rattle.std.proofs.Math.Seq.{take-append_seam}
 use Rattle.principals.specs.ActsFor.{PrincipalHierarchy}
 use Rattle.labels.specs.Label.{Label}
 use Rattle.syntax.specs.Nodes as tree
-use Rattle.syntax.specs.Tree.{WrittenResultTree, ParameterTree, ThrownTree, ProcedureTree}
+use Rattle.syntax.specs.Tree.{WrittenResultTree, ParameterTree, ThrownTree, ProcedureTree, LabelTree}
 use Rattle.syntax.specs.Written.{IsInteger, IsWrittenProcedure}
 use Rattle.common.specs.declared.base_type.BaseType.{BaseType}
 use Rattle.resolved.specs.declared.expression.Variable.TheVariants.{Local}
@@ -21,10 +21,10 @@ use Rattle.resolved.proofs.WellFormedParts.{procedure_from_parts}
 use Rattle.types.specs.declared.scope.ItemKind.TheVariants.{Exception}
 use Rattle.types.specs.declared.scope.Meaning.TheVariants as meanings
 use Rattle.common.specs.Results.{along}
-use Rattle.types.specs.Finding.{require}
+use Rattle.types.specs.Finding.{require, of_option, ◌gives◌}
 use Rattle.types.specs.Environment.{Environment, fresh_finding, use_as, item_of}
 use Rattle.types.specs.Labels.{LabelScope, label_finding, optional_label_finding}
-use Rattle.types.specs.Statements.{Signature, Setting, Point, block_finding, slot_of}
+use Rattle.types.specs.Statements.{Signature, Setting, Point, block_finding, slot_of, declared_finding, with_local}
 use Rattle.types.specs.Views.{setting_within}
 use Rattle.types.specs.Resolution.{TopLevel, heads, result_base_of, signature_of, result_finding, next_parameter, is_thrown, next_thrown, procedure_entry_finding, joined_all}
 use Rattle.types.proofs.Passing.{then_finds, require_finds, any_finds, finds_for_all}
@@ -83,19 +83,31 @@ record Begun (program : Program) (procedure : ProcedureEntry) (setting : Setting
   pub no_loops : point.loops ≡ 0
   pub means : IsPrefix program procedure setting point.slots → Means program procedure setting.signatures names → Means program procedure setting.signatures point.names
 
+-- a label that stands there
+one_label_there : (scope : LabelScope) (globals_fit : GlobalsFit scope.hierarchy scope.globals) (slots_fit : SlotsFit scope.hierarchy scope.slots) (label : LabelTree)
+    → IfOk (optional_label_finding scope (Some label)) (λ written. (found : Label) × (written ≡ Some found) × (label_fits scope.hierarchy found ≡ true))
+unfolding of_option
+one_label_there scope globals_fit slots_fit label =
+    then_finds (label_finding scope label) _ (λ found. label_fits scope.hierarchy found ≡ true) _ (label_there scope globals_fit slots_fit label)
+    (λ found there. (found, refl, there))
+
 parameters_begin : (program : Program) (procedure : ProcedureEntry) (setting : Setting) (scope : LabelScope) (same : scope.hierarchy ≡ setting.outer.hierarchy) (globals_fit : GlobalsFit scope.hierarchy scope.globals)
     (slots_fit : SlotsFit scope.hierarchy scope.slots) (names : Environment) (bases all : List BaseType) (point : Point) (parameters : List ParameterTree)
     → all ≡ bases ++ map parameter_base parameters → Begun program procedure setting names bases point
     → IfOk (along (next_parameter scope) point parameters) (Begun program procedure setting names all)
+unfolding declared_finding
 parameters_begin program procedure setting scope same globals_fit slots_fit names bases all point [] e begun =
     subst (λ one. Begun program procedure setting names one point) (sym (e ∙ append-nil bases)) begun
 parameters_begin program procedure setting scope same globals_fit slots_fit names bases all point (parameter ∷ parameters) e begun =
     let base = parameter_base parameter in
     then_finds (next_parameter scope point parameter) (λ next. along (next_parameter scope) next parameters)
     (Begun program procedure setting names (bases ++ base ∷ [])) _
-    (then_finds (label_finding scope parameter.label) _ (λ found. label_fits scope.hierarchy found ≡ true) _
-    (label_there scope globals_fit slots_fit parameter.label) (λ label there.
-    then_finds (fresh_finding (point.names parameter.name.text) parameter.name.at) _ (λ one. Unit {0}) _
+    (then_finds (optional_label_finding scope (Some parameter.label)) _
+    (λ written. (label : Label) × (written ≡ Some label) × (label_fits scope.hierarchy label ≡ true)) _
+    (one_label_there scope globals_fit slots_fit parameter.label) (λ written (label, written_is, there).
+    subst (λ written. IfOk (fresh_finding (point.names parameter.name.text) parameter.name.at gives λ _. with_local point (slot_of parameter.at base written parameter.name.text None))
+    (Begun program procedure setting names (bases ++ base ∷ []))) (sym written_is)
+    (then_finds (fresh_finding (point.names parameter.name.text) parameter.name.at) _ (λ one. Unit {0}) _
     (any_finds (fresh_finding (point.names parameter.name.text) parameter.name.at)) (λ one nothing.
     let slot = slot_of parameter.at base (Some label) parameter.name.text None in
     record {
@@ -107,7 +119,7 @@ parameters_begin program procedure setting scope same globals_fit slots_fit name
           λ is means. means_declaring program procedure setting.signatures parameter.name.text (meanings.Variable (Local (length point.slots)) base None) point.names
           (local_there program procedure setting point.slots slot is)
           (begun.means (prefix_before program procedure setting point.slots (slot ∷ []) (point.slots ++ slot ∷ []) refl is) means);
-    })))
+    }))))
     (λ next begun_next.
     parameters_begin program procedure setting scope same globals_fit slots_fit names (bases ++ base ∷ []) all next parameters
     (e ∙ sym (append_assoc bases (base ∷ []) (map parameter_base parameters))) begun_next)
@@ -148,11 +160,14 @@ throws_keep program procedure signatures scope globals_fit slots_fit before node
 
 result_there : (scope : LabelScope) (globals_fit : GlobalsFit scope.hierarchy scope.globals) (slots_fit : SlotsFit scope.hierarchy scope.slots) (finding : WrittenResultTree)
     → IfOk (result_finding scope finding) (λ found. (result_fits scope.hierarchy found ≡ true) × (given_base found ≡ result_base_of finding))
-unfolding result_finding
+unfolding of_option
 result_there scope globals_fit slots_fit None = (refl, refl)
 result_there scope globals_fit slots_fit (Some (base, label)) =
-    then_finds (label_finding scope label) _ (λ found. label_fits scope.hierarchy found ≡ true) _ (label_there scope globals_fit slots_fit label)
-    (λ found there. (there, refl))
+    then_finds (label_finding scope label gives λ written. record { base = base; label = written }) _
+    (λ (entry : ResultEntry). (label_fits scope.hierarchy entry.label ≡ true) × (entry.base ≡ base)) _
+    (then_finds (label_finding scope label) _ (λ found. label_fits scope.hierarchy found ≡ true) _ (label_there scope globals_fit slots_fit label)
+    (λ found there. (there, refl)))
+    (λ entry kept. (kept.0, ap Some kept.1))
 
 begin_there : (h : PrincipalHierarchy) (written : Option Label) → written_fits h written ≡ true → label_fits h (unwrap_or written []) ≡ true
 begin_there h None e = refl

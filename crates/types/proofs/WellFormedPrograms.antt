@@ -17,11 +17,11 @@ use Rattle.syntax.specs.Tree.{IntegerConstant, TruthConstant, GlobalValueTree, S
 use Rattle.syntax.specs.Written.{IsInteger, IsWritten, IsWrittenItem}
 use Rattle.common.specs.declared.base_type.BaseType.{BaseType}
 use Rattle.common.specs.declared.base_type.BaseType.TheVariants.{Int, Boolean}
-use Rattle.resolved.specs.declared.expression.Value.{Value}
-use Rattle.resolved.specs.declared.expression.Value.TheVariants.{Number, Truth}
+use Rattle.common.specs.declared.value.Value.{Value}
+use Rattle.common.specs.declared.value.Value.TheVariants.{Int as Number, Bool as Truth}
 use Rattle.resolved.specs.declared.expression.Variable.TheVariants.{Global, Local}
 use Rattle.resolved.specs.Program.{SlotEntry, Program, ChannelEntry, GlobalEntry, ProcedureEntry}
-use Rattle.resolved.specs.Value.{base_of as base_of_value, zero_value}
+use Rattle.common.specs.Values.{kind_of as base_of_value, zero_of}
 use Rattle.resolved.specs.WellFormed.{same_base, VariableType, global_type, parameters_of, same_direction, channel_is, label_fits, is_zero_value, first_fits, main_fits, cell_count, node_limit, size_fits, label_nodes, procedure_nodes, program_nodes, procedure_fits, well_formed}
 use Rattle.resolved.proofs.WellFormedParts.{program_from_parts}
 use Rattle.types.specs.declared.scope.Meaning.{Meaning}
@@ -261,7 +261,7 @@ IsWellFormedFirst base value found =
     (size_fits found.0 ≡ true)
     × ((same_base (base_of_value found.1) base && (is_none found.0 || is_zero_value found.1)) ≡ true) × (found.0 ≡ size_of value)
 
-zero_fits : (base : BaseType) → (same_base (base_of_value (zero_value base)) base && is_zero_value (zero_value base)) ≡ true
+zero_fits : (base : BaseType) → (same_base (base_of_value (zero_of base)) base && is_zero_value (zero_of base)) ≡ true
 zero_fits Int = refl
 zero_fits Boolean = refl
 

@@ -1,5 +1,6 @@
 -- The statements that are found fit where they stand, their loops count up, the slots that they take fit, and they have no more nodes
 -- than the written ones.
+use Rattle.labels.specs.Label.{Label}
 use Rattle.std.proofs.Common.{◌≡◌, refl, sym, ◌∙◌, subst, ap, ℕ, suc, ◌+◌, ◌≤◌, List, [], ◌∷◌, ◌++◌, map, length, Bool, true, false, append-nil, append_assoc, arith}
 use Rattle.std.specs.Prelude.{All, IfOk, Option, Some, None, ◌==◌, ◌&&◌, is_none, slice_get, slice_index_or, sum_by, nat_lt, nat_le}
 use Rattle.std.specs.List.{list_all}
@@ -19,7 +20,7 @@ use Rattle.resolved.specs.declared.expression.Variable.TheVariants.{Local}
 use Rattle.common.specs.declared.direction.Direction.TheVariants as directions
 use Rattle.resolved.specs.declared.statement.Exit.TheVariants as exits
 use Rattle.resolved.specs.Program.{Program, ProcedureEntry, SlotEntry, ResultEntry}
-use Rattle.resolved.specs.Tree.{Expression, Statement, Store, Receive, Send, Call, If, While, Leave, ReturnWith, Try, Nested, Block, Handlers, Catch}
+use Rattle.resolved.specs.Tree.{Expression, Statement, Store, Receive, Send, Call, If, While, Leave, ReturnWith, Try, Nested, Block, Handlers, Catch, Clear}
 use Rattle.resolved.specs.WellFormed.{same_base, slot_type, variable_type, scalar_by, array_by, has_base, has_result, target_by, channel_is, is_exception, is_array, arguments_match, call_matches, parameters_of, statement_fits, block_fits, handlers_fit, statement_loops, block_loops, handlers_loops, counts_from, size_fits, written_fits, expression_nodes, statement_nodes, block_nodes, handlers_nodes}
 use Rattle.resolved.proofs.Sound.Values.{same_base_is, same_base_itself}
 use Rattle.types.specs.declared.scope.ItemKind.TheVariants.{Channel, Exception, Procedure}
@@ -29,7 +30,7 @@ use Rattle.types.specs.Finding.{require}
 use Rattle.types.specs.Environment.{Environment, fresh_finding, use_as, scalar_of, array_of, item_of}
 use Rattle.types.specs.Labels.{optional_label_finding}
 use Rattle.types.specs.Expressions.{expression_finding, typed_finding}
-use Rattle.types.specs.Statements.{arguments_finding, Setting, Point, label_scope, signature_at, next_argument, call_finding, gives_base, assigned_finding, declare_finding, size_finding, declare_array_finding, return_finding, after_block, statement_finding, block_finding, statements_finding, catches_finding, slot_of}
+use Rattle.types.specs.Statements.{arguments_finding, Setting, Point, label_scope, signature_at, next_argument, call_finding, gives_base, assigned_finding, declare_finding, size_finding, declare_array_finding, declared_finding, with_local, after_block, statement_finding, block_finding, statements_finding, catches_finding, slot_of}
 use Rattle.types.proofs.Passing.{then_finds, if_finds, require_finds, any_finds, finds_for_all}
 use Rattle.types.proofs.WellFormedExpressions.{given_base, slot_base, scalar_type, array_type, Stands, Means, means_declaring, scalar_found, array_found, item_found, IsWellFormedTyped, IsWellFormedExpression, expression_keeps, typed_keeps}
 use Rattle.types.proofs.WellFormedLabels.{GlobalsFit, SlotsFit, optional_label_there}
@@ -266,7 +267,7 @@ module _ (program : Program) (procedure : ProcedureEntry) (setting : Setting) wh
 
     call_keeps : (names : Environment) (call : CallTree) → IsWrittenCall placed word IsInteger call
         → IfOk (call_finding setting.signatures names call) (IsWellFormedCall names (tree.call_nodes call))
-    unfolding call_finding arguments_finding
+    unfolding call_finding
     call_keeps names call written =
         then_finds (use_as (item_of Procedure) (names call.0.text) call.0.at) _
         (λ number. MeansHere names → Stands program procedure setting.signatures (meanings.Item Procedure number)) _
@@ -316,8 +317,7 @@ module _ (program : Program) (procedure : ProcedureEntry) (setting : Setting) wh
 
     gives_value : (given : Option ResultEntry) (base : BaseType) → gives_base base (given_base given) ≡ true → has_result given (same_base base) ≡ true
     gives_value None base e = e
-    gives_value (Some entry) base e =
-        subst (λ one. same_base base one ≡ true) (sym (same_base_is entry.base base e)) (same_base_itself base)
+    gives_value (Some entry) base e = e
 
     call_passes : (made : CallUse) (target : Option Variable) → CalledThere made
         → ((callee : ProcedureEntry) → given_base callee.result ≡ made.2 → target_by program procedure target (λ base. has_result callee.result (same_base base)) ≡ true)
@@ -470,25 +470,26 @@ module _ (program : Program) (procedure : ProcedureEntry) (setting : Setting) wh
       returns_value : (entry : Option ResultEntry) (base : BaseType) (e : Expression) → gives_base base (given_base entry) ≡ true
           → has_base program procedure base e ≡ true → has_result entry (λ base. has_base program procedure base e) ≡ true
       returns_value None base e given fits = given
-      returns_value (Some entry) base e given fits = subst (λ one. has_base program procedure one e ≡ true) (sym (same_base_is entry.base base given)) fits
+      returns_value (Some entry) base e given fits = subst (λ one. has_base program procedure one e ≡ true) (same_base_is base entry.base given) fits
 
-      return_keeps : (names : Environment) (at : ℕ) (right : Option ExpressionTree) → IsWrittenOptionalExpression placed word IsInteger right
-          → IfOk (return_finding setting.result names at right) (IsWellFormedPlain names (1 + tree.optional_expression_nodes right))
-      unfolding return_finding
-      return_keeps names at None written =
-          if_finds (is_none setting.result) (ReturnWith at None) _ at _ (λ none. record {
+      return_keeps : (point : Point) (at : ℕ) (right : Option ExpressionTree) → IsWrittenOptionalExpression placed word IsInteger right
+          → IfOk (statement_finding setting point (ReturnTree at right)) (IsWellFormedStatement point (1 + tree.optional_expression_nodes right))
+      unfolding statement_finding
+      return_keeps point at None written =
+          if_finds (is_none setting.result) (point, ReturnWith at None) _ at _ (λ none. plain_keeps point 1 (ReturnWith at None) (record {
             fits = λ means. no_value procedure.result (subst (λ one. is_none one ≡ true) (sym value) none);
             no_loops = refl;
             few = omega arith;
-          })
-      return_keeps names at (Some right) written =
-          then_finds (expression_finding names right) _ (IsWellFormedExpression program procedure setting.signatures names (tree.expression_nodes right)) _
-          (expression_keeps program procedure setting.signatures placed word names right written)
-          (λ found kept. if_finds (gives_base found.1 setting.result) (ReturnWith at (Some found.0)) _ (expression_at right) _ (λ given. record {
+          }))
+      return_keeps point at (Some right) written =
+          then_finds (expression_finding point.names right) _ (IsWellFormedExpression program procedure setting.signatures point.names (tree.expression_nodes right)) _
+          (expression_keeps program procedure setting.signatures placed word point.names right written)
+          (λ found kept. if_finds (gives_base found.1 setting.result) (point, ReturnWith at (Some found.0)) _ (expression_at right) _ (λ given.
+          plain_keeps point (1 + tree.optional_expression_nodes (Some right)) (ReturnWith at (Some found.0)) (record {
             fits = λ means. returns_value procedure.result found.1 found.0 (subst (λ one. gives_base found.1 one ≡ true) (sym value) given) (kept.fits means);
             no_loops = refl;
             few = omega (arith, kept.few);
-          }))
+          })))
 
       -- ---- declarations
 
@@ -498,18 +499,33 @@ module _ (program : Program) (procedure : ProcedureEntry) (setting : Setting) wh
           finds_for_all (optional_label_finding (label_scope setting point) label) (λ (before : FitBefore point) found. written_fits setting.outer.hierarchy found ≡ true)
           (λ before. optional_label_there (label_scope setting point) before.0 (written_fit point.slots before.1) label)
 
+      -- the point after a declaration has one slot more, of which the label fits
+      record IsDeclared (point : Point) (at : ℕ) (base : BaseType) (name : NameTree) (size : Option ℕ) (next : Point) : Type 0 where
+        pub written : Option Label
+        pub next_is : next ≡ with_local point (slot_of at base written name.text size)
+        pub there : FitBefore point → written_fits setting.outer.hierarchy written ≡ true
+
+      declared_there : (point : Point) (at : ℕ) (base : BaseType) (label : Option LabelTree) (name : NameTree) (size : Option ℕ)
+          → IfOk (declared_finding (label_scope setting point) point at base label name size) (IsDeclared point at base name size)
+      unfolding declared_finding
+      declared_there point at base label name size =
+          then_finds (optional_label_finding (label_scope setting point) label) _ (λ found. FitBefore point → written_fits setting.outer.hierarchy found ≡ true) _
+          (local_label_there point label) (λ written there.
+          then_finds (fresh_finding (point.names name.text) name.at) _ (λ one. Unit {0}) _ (any_finds (fresh_finding (point.names name.text) name.at))
+          (λ one nothing. record { written = written; next_is = refl; there = there }))
+
       declare_keeps : (point : Point) (at : ℕ) (base : BaseType) (label : Option LabelTree) (name : NameTree) (right : RightTree) → IsWrittenRight placed word IsInteger right
           → IfOk (declare_finding setting point at base label name right) (IsWellFormedStatement point (2 + (tree.optional_label_nodes label + tree.right_nodes right)))
       unfolding statement_finding
       declare_keeps point at base label name right written_right =
           let target = Local (length point.slots) in
-          then_finds (optional_label_finding (label_scope setting point) label) _ (λ found. FitBefore point → written_fits setting.outer.hierarchy found ≡ true) _
-          (local_label_there point label) (λ written there.
-          then_finds (fresh_finding (point.names name.text) name.at) _ (λ one. Unit {0}) _ (any_finds (fresh_finding (point.names name.text) name.at)) (λ one nothing.
+          then_finds (declared_finding (label_scope setting point) point at base label name None) _ (IsDeclared point at base name None) _
+          (declared_there point at base label name None) (λ after declared.
           then_finds (assigned_finding setting.signatures point.names at target base right) _ (IsWellFormedAssigned point.names target base (1 + tree.right_nodes right)) _
           (assigned_keeps point.names at target base right written_right) (λ statement kept.
-          let slot = slot_of at base written name.text None in
-          record {
+          let slot = slot_of at base declared.written name.text None in
+          let there = declared.there in
+          subst (λ next. IsWellFormedStatement point (2 + (tree.optional_label_nodes label + tree.right_nodes right)) (next, statement)) (sym declared.next_is) (record {
             more = slot ∷ [];
             slots = refl;
             slots_fit = λ before. and_from (slot_fits setting slot) true (there before) refl;
@@ -529,23 +545,23 @@ module _ (program : Program) (procedure : ProcedureEntry) (setting : Setting) wh
       unfolding statement_finding size_finding
       declare_array_keeps point at base label name size =
           let target = Local (length point.slots) in
-          then_finds (optional_label_finding (label_scope setting point) label) _ (λ found. FitBefore point → written_fits setting.outer.hierarchy found ≡ true) _
-          (local_label_there point label) (λ written there.
-          then_finds (fresh_finding (point.names name.text) name.at) _ (λ one. Unit {0}) _ (any_finds (fresh_finding (point.names name.text) name.at)) (λ one nothing.
-          then_finds (size_finding size) _ (λ length_of. size_fits (Some length_of) ≡ true) _
-          (if_finds (nat_lt 0 size.1 && nat_le size.1 MAX_ELEMENTS) size.1 _ size.0 _ (λ fit. fit)) (λ length_of fit.
-          let slot = slot_of at base written name.text (Some length_of) in
-          record {
+          then_finds (declared_finding (label_scope setting point) point at base label name (Some size.1)) _ (IsDeclared point at base name (Some size.1)) _
+          (declared_there point at base label name (Some size.1)) (λ after declared.
+          then_finds (size_finding size) _ (λ found. size_fits (Some size.1) ≡ true) _
+          (if_finds (nat_lt 0 size.1 && nat_le size.1 MAX_ELEMENTS) size.1 _ size.0 _ (λ fit. fit)) (λ found fit.
+          let slot = slot_of at base declared.written name.text (Some size.1) in
+          let there = declared.there in
+          subst (λ next. IsWellFormedStatement point (3 + tree.optional_label_nodes label) (next, Clear at (length point.slots))) (sym declared.next_is) (record {
             more = slot ∷ [];
             slots = refl;
             slots_fit =
-                λ before. and_from (slot_fits setting slot) true (and_from (size_fits (Some length_of)) (written_fits setting.outer.hierarchy written) fit (there before)) refl;
+                λ before. and_from (slot_fits setting slot) true (and_from (size_fits (Some size.1)) (written_fits setting.outer.hierarchy declared.written) fit (there before)) refl;
             loops_count = refl;
             loops_all = omega arith;
             few = omega arith;
             fits = λ is means. subst (λ one. is_array one ≡ true) (sym (local_there point.slots slot is)) refl;
             names =
-                λ is means. means_declaring program procedure setting.signatures name.text (meanings.Variable target base (Some length_of)) point.names
+                λ is means. means_declaring program procedure setting.signatures name.text (meanings.Variable target base (Some size.1)) point.names
                 (local_there point.slots slot is) means;
           })))
 
@@ -633,9 +649,7 @@ module _ (program : Program) (procedure : ProcedureEntry) (setting : Setting) wh
         statement_keeps point (BreakTree at) is = plain_keeps point 1 (Leave at exits.Break) (record { fits = λ means. refl; no_loops = refl; few = omega arith })
         statement_keeps point (ContinueTree at) is = plain_keeps point 1 (Leave at exits.Continue) (record { fits = λ means. refl; no_loops = refl; few = omega arith })
         statement_keeps point (ThrowTree at exception) is = throw_keeps point at exception
-        statement_keeps point (ReturnTree at right) is =
-            then_finds (return_finding setting.result point.names at right) _ (IsWellFormedPlain point.names (1 + tree.optional_expression_nodes right)) _
-            (return_keeps point.names at right is.1) (λ statement kept. plain_keeps point (1 + tree.optional_expression_nodes right) statement kept)
+        statement_keeps point (ReturnTree at right) is = return_keeps point at right is.1
         statement_keeps point (TryTree at body catches) is =
             then_finds (block_finding setting point body) _ (IsWellFormedBlock point (tree.block_nodes body)) _ (block_keeps point body is.1) (λ done kept.
             then_finds (catches_finding setting done.0 catches) _ (AreWellFormedHandlers done.0 (tree.catches_nodes catches)) _ (catches_keep done.0 catches is.2)

@@ -8,7 +8,7 @@ use Rattle.syntax.specs.declared.tree.BinaryOperator.{BinaryOperator}
 use Rattle.syntax.specs.declared.tree.BinaryOperator.TheVariants.{Compute, Compare, Connect}
 use Rattle.syntax.specs.Tree.{ExpressionTree, IntegerTree, TruthTree, VariableTree, ElementTree, UnaryTree, BinaryTree, expression_at}
 use Rattle.common.specs.declared.base_type.BaseType.TheVariants.{Int, Boolean}
-use Rattle.resolved.specs.declared.expression.Operator.TheVariants as operators
+use Rattle.common.specs.declared.operator.Operator.TheVariants as operators
 use Rattle.resolved.specs.Tree.{Expression, Integer, Logical, Read, Element, Unary, Binary, Short}
 use Rattle.resolved.specs.WellFormed.{same_base, prefix_base}
 use Rattle.types.specs.declared.fault.TypeRefusalKind.TheVariants as refusals

@@ -1,6 +1,6 @@
 -- What looking at a part of a program comes to: something that was found, or the first fault.
 -- Source: our own, the results of a computation that may fail, in the usual sense.
-use Rattle.std.specs.Prelude.{◌≡◌, ℕ, List, [], ◌∷◌, ◌++◌, Bool, Option, ok_or, Result, Ok, Err, if◌then◌else◌}
+use Rattle.std.specs.Prelude.{◌≡◌, ℕ, List, [], ◌∷◌, ◌++◌, Bool, Option, None, Some, ok_or, Result, Ok, Err, if◌then◌else◌}
 use Rattle.common.specs.Results.{along, ◌>>=◌}
 use Rattle.types.specs.declared.fault.TypeRefusalKind.{TypeRefusalKind}
 use Rattle.common.specs.declared.refusal.RefusalAt.{RefusalAt}
@@ -24,6 +24,11 @@ give_if test x kind at = if test then Ok x else Err (record { kind = kind; at = 
 -- nothing but that a test holds
 abbrev pub require : Bool → TypeRefusalKind → (at : ℕ) → Finding (Unit {0})
 require test kind at = give_if test tt kind at
+
+-- what is found of a thing that may be left out
+unfoldable pub of_option : {X A : Type 0} → (X → Finding A) → Option X → Finding (Option A)
+of_option look None = Ok None
+of_option look (Some x) = look x gives Some
 
 -- what is found of each element, in their order
 abbrev pub of_each : {X A : Type 0} → (X → Finding A) → List X → Finding (List A)

@@ -12,7 +12,7 @@ use Rattle.syntax.specs.Tree.{NameTree, ComponentTree, PolicyComponent, Variable
 use Rattle.types.specs.declared.fault.TypeRefusalKind.TheVariants as refusals
 use Rattle.types.specs.Environment.{Environment, use_as, variable_of}
 use Rattle.common.specs.Results.{along, ◌>>=◌}
-use Rattle.types.specs.Finding.{Finding, ◌gives◌, found_or, of_each}
+use Rattle.types.specs.Finding.{Finding, ◌gives◌, found_or, of_option, of_each}
 
 -- what a label may name where it stands: the principals, and the variables among the names in scope, of which the globals are those
 -- that are declared before it, and the slots those of the parameters and locals
@@ -22,15 +22,10 @@ pub record LabelScope : Type 0 where
   pub globals : List GlobalEntry
   pub slots : List SlotEntry
 
--- ---- policies
+-- ---- principals
 
 unfoldable pub principal_finding : PrincipalHierarchy → NameTree → Finding ℕ
 principal_finding h name = found_or refusals.UnknownPrincipal name.at (number_of h name.text)
-
-unfoldable pub policy_finding : PrincipalHierarchy → (owner : NameTree) (readers : List NameTree) → Finding ReaderPolicy
-policy_finding h owner readers = do
-  number ← principal_finding h owner
-  of_each (principal_finding h) readers gives written_policy number
 
 -- ---- the labels of variables
 
@@ -45,7 +40,9 @@ variable_label_finding scope (Local number) at = do
 -- ---- labels
 
 unfoldable pub component_finding : LabelScope → ComponentTree → Finding (List ReaderPolicy)
-component_finding scope (PolicyComponent owner readers) = policy_finding scope.hierarchy owner readers gives λ policy. policy ∷ []
+component_finding scope (PolicyComponent owner readers) = do
+  number ← principal_finding scope.hierarchy owner
+  of_each (principal_finding scope.hierarchy) readers gives λ found. written_policy number found ∷ []
 component_finding scope (VariableComponent name) = do
   variable ← use_as variable_of (scope.names name.text) name.at
   variable_label_finding scope variable name.at
@@ -54,12 +51,17 @@ unfoldable pub label_finding : LabelScope → LabelTree → Finding Label
 label_finding scope label =
     along (λ found component. component_finding scope component gives λ more. found ++ more) [] label.components gives written_label
 
--- a label that may be left out
-unfoldable pub optional_label_finding : LabelScope → Option LabelTree → Finding (Option Label)
-optional_label_finding scope None = Ok None
-optional_label_finding scope (Some label) = label_finding scope label gives Some
+-- ---- parts of the rules, by which proofs speak of them
 
--- ---- a part of the rules, by which proofs speak of them
+-- the policy of a component
+unfoldable pub policy_finding : PrincipalHierarchy → (owner : NameTree) (readers : List NameTree) → Finding ReaderPolicy
+policy_finding h owner readers = do
+  number ← principal_finding h owner
+  of_each (principal_finding h) readers gives written_policy number
+
+-- a label that may be left out
+abbrev pub optional_label_finding : LabelScope → Option LabelTree → Finding (Option Label)
+optional_label_finding scope label = of_option (label_finding scope) label
 
 -- the policies of one component more
 abbrev pub next_component : LabelScope → List ReaderPolicy → ComponentTree → Finding (List ReaderPolicy)

@@ -15,8 +15,8 @@ use Rattle.syntax.specs.declared.tree.BinaryOperator.TheVariants as binary
 use Rattle.syntax.specs.Tree.{NameTree, LabelTree, ExpressionTree, IntegerTree, TruthTree, VariableTree, ElementTree, UnaryTree, BinaryTree, CallTree, RightTree, ReceivedTree, CalledTree, ValueTree, SizeTree, StatementTree, DeclareTree, DeclareArrayTree, AssignTree, AssignElementTree, CallTree', ReceiveTree, SendTree, IfTree, WhileTree, BreakTree, ContinueTree, ThrowTree, ReturnTree, TryTree, NestedTree, BlockTree, BlockOf, StatementTrees, NoStatement, StatementThen, CatchTrees, NoCatch, CatchThen, GlobalValueTree, ParameterTree, ThrownTree, ProcedureTree, ItemTree, ChannelItem, ExceptionItem, GlobalItem, ProcedureItem, ProgramTree}
 use Rattle.resolved.specs.declared.expression.Variable.{Variable}
 use Rattle.resolved.specs.declared.expression.Variable.TheVariants.{Global, Local}
-use Rattle.resolved.specs.declared.expression.Operator.{Operator}
-use Rattle.resolved.specs.declared.expression.Operator.TheVariants.{Compute, Compare, Match}
+use Rattle.common.specs.declared.operator.Operator.{Operator}
+use Rattle.common.specs.declared.operator.Operator.TheVariants.{Compute, Compare, Match}
 use Rattle.resolved.specs.declared.statement.Exit.TheVariants as exits
 use Rattle.common.specs.Exceptions.{built_in_names}
 use Rattle.resolved.specs.Program.{Program, SlotEntry, ThrownEntry, ProcedureEntry}

@@ -10,21 +10,21 @@ use Rattle.labels.specs.Canonical.{written_label, joined}
 use Rattle.syntax.specs.Tree.{NameTree, LabelTree, IntegerConstant, TruthConstant, GlobalValueTree, ScalarTree, ArrayTree, GlobalTree, ChannelTree, ParameterTree, ProcedureTree, ItemTree, ChannelItem, ExceptionItem, GlobalItem, ProcedureItem, ProgramTree}
 use Rattle.common.specs.declared.base_type.BaseType.{BaseType}
 use Rattle.common.specs.declared.base_type.BaseType.TheVariants.{Int, Boolean}
-use Rattle.resolved.specs.declared.expression.Value.{Value}
-use Rattle.resolved.specs.declared.expression.Value.TheVariants.{Number, Truth}
+use Rattle.common.specs.declared.value.Value.{Value}
+use Rattle.common.specs.declared.value.Value.TheVariants as values
 use Rattle.resolved.specs.declared.expression.Variable.TheVariants.{Global}
 use Rattle.resolved.specs.Program.{Program, ChannelEntry, GlobalEntry, SlotEntry, ResultEntry, ThrownEntry, ProcedureEntry}
-use Rattle.resolved.specs.Value.{zero_value}
+use Rattle.common.specs.Values.{zero_of}
 use Rattle.resolved.specs.WellFormed.{same_base, cell_count}
 use Rattle.types.specs.declared.fault.TypeRefusalKind.TheVariants as refusals
 use Rattle.types.specs.declared.scope.ItemKind.TheVariants.{Channel, Exception, Procedure}
 use Rattle.types.specs.declared.scope.Meaning.{Meaning}
 use Rattle.types.specs.declared.scope.Meaning.TheVariants as meanings
 use Rattle.common.specs.Results.{along, ◌>>=◌}
-use Rattle.types.specs.Finding.{Finding, ◌gives◌, found_or, give_if, require}
+use Rattle.types.specs.Finding.{Finding, ◌gives◌, found_or, give_if, of_option, require}
 use Rattle.types.specs.Environment.{Environment, declaring, fresh_finding, use_as, item_of}
-use Rattle.types.specs.Labels.{LabelScope, label_finding, optional_label_finding}
-use Rattle.types.specs.Statements.{Signature, Setting, Point, with_variable, size_finding, block_finding}
+use Rattle.types.specs.Labels.{LabelScope, label_finding}
+use Rattle.types.specs.Statements.{Signature, Setting, Point, declared_finding, size_finding, block_finding}
 use Rattle.common.specs.declared.limits.TheConstants.{MAX_CELLS}
 
 -- ---- the names of the items
@@ -53,11 +53,9 @@ abbrev pub size_of : GlobalValueTree → Option ℕ
 size_of (ScalarTree constant) = None
 size_of (ArrayTree size) = Some size.1
 
-abbrev pub result_base_of : Option (BaseType × LabelTree) → Option BaseType
-result_base_of result = option_map (λ (base, label). base) result
-
 abbrev pub signature_of : ProcedureTree → Signature
-signature_of tree = record { parameters = map (λ (one : ParameterTree). one.base) tree.parameters; result = result_base_of tree.result }
+signature_of tree =
+    record { parameters = map (λ (one : ParameterTree). one.base) tree.parameters; result = option_map (λ (base, label). base) tree.result }
 
 -- the top level with one more name, which nothing in scope has
 abbrev pub with_name : TopLevel → NameTree → Meaning → Finding TopLevel
@@ -84,22 +82,15 @@ heads h top globals = record { hierarchy = h; names = top.names; globals = globa
 -- the length of a global that is an array, and what its cells hold at first
 unfoldable pub first_finding : BaseType → GlobalValueTree → Finding (Option ℕ × Value)
 first_finding base (ScalarTree (IntegerConstant at negative value)) =
-    give_if (same_base Int base) (None, Number (if negative then neg_ℤ (pos value) else pos value)) refusals.WrongType at
-first_finding base (ScalarTree (TruthConstant at value)) = give_if (same_base Boolean base) (None, Truth value) refusals.WrongType at
-first_finding base (ArrayTree size) = size_finding size gives λ length_of. (Some length_of, zero_value base)
+    give_if (same_base Int base) (None, values.Int (if negative then neg_ℤ (pos value) else pos value)) refusals.WrongType at
+first_finding base (ScalarTree (TruthConstant at value)) = give_if (same_base Boolean base) (None, values.Bool value) refusals.WrongType at
+first_finding base (ArrayTree size) = size_finding size gives λ length_of. (Some length_of, zero_of base)
 
 -- ---- procedures
 
-unfoldable pub result_finding : LabelScope → Option (BaseType × LabelTree) → Finding (Option ResultEntry)
-result_finding scope None = Ok None
-result_finding scope (Some (base, label)) = label_finding scope label gives λ written. Some (record { base = base; label = written })
-
--- a parameter, which takes the next slot and is in scope in the body; no label before the body names it
+-- a parameter, which is in scope in the body; no label before the body names it
 abbrev pub next_parameter : LabelScope → Point → ParameterTree → Finding Point
-next_parameter scope point parameter = do
-  label ← label_finding scope parameter.label
-  fresh_finding (point.names parameter.name.text) parameter.name.at
-      gives λ _. with_variable point parameter.at parameter.base (Some label) parameter.name.text None
+next_parameter scope point one = declared_finding scope point one.at one.base (Some one.label) one.name None
 
 -- an exception that a procedure may let out, which is none of those that it names before (302)
 abbrev pub next_thrown : LabelScope → List ThrownEntry → NameTree × LabelTree → Finding (List ThrownEntry)
@@ -112,12 +103,12 @@ next_thrown scope throws (name, written) = do
 -- exceptions
 unfoldable pub procedure_entry_finding : LabelScope → List Signature → ProcedureTree → Finding ProcedureEntry
 procedure_entry_finding scope signatures procedure = do
-  result ← result_finding scope procedure.result
-  begin ← optional_label_finding scope procedure.begin
+  result ← of_option (λ (base, label). label_finding scope label gives λ written. record { base = base; label = written }) procedure.result
+  begin ← of_option (label_finding scope) procedure.begin
   point ← along (next_parameter scope) (record { names = scope.names; slots = []; loops = 0 }) procedure.parameters
-  end ← optional_label_finding scope procedure.end
+  end ← of_option (label_finding scope) procedure.end
   throws ← along (next_thrown scope) [] procedure.throws
-  let setting : Setting = record { outer = scope; signatures = signatures; result = result_base_of procedure.result }
+  let setting : Setting = record { outer = scope; signatures = signatures; result = (signature_of procedure).result }
   block_finding setting point procedure.body gives λ inner. record {
     at = procedure.name.at;
     name = procedure.name.text;
@@ -187,6 +178,15 @@ resolution h program = do
 -- a number with its sign
 abbrev pub signed : (negative : Bool) → ℕ → ℤ
 signed negative value = if negative then neg_ℤ (pos value) else pos value
+
+-- the type and the label of a procedure's value
+abbrev pub result_finding : LabelScope → Option (BaseType × LabelTree) → Finding (Option ResultEntry)
+result_finding scope result =
+    of_option (λ (base, label). label_finding scope label gives λ written. record { base = base; label = written }) result
+
+-- the type of a procedure's value
+abbrev pub result_base_of : Option (BaseType × LabelTree) → Option BaseType
+result_base_of result = option_map (λ (base, label). base) result
 
 abbrev pub nothing_declared : Environment
 nothing_declared name = None

@@ -3,6 +3,7 @@
 -- none.
 -- Source: our own, block structure in the usual sense: a local's scope runs from the end of its declaration to the end of its block.
 use Rattle.std.specs.Prelude.{ℕ, ◌+◌, List, [], ◌∷◌, ◌++◌, length, Bool, false, ◌==◌, ◌&&◌, nat_lt, nat_le, is_none, Option, Some, None, Ok, slice_index_or}
+use Rattle.std.specs.Option.{option_map_or}
 use Rattle.labels.specs.Label.{Label}
 use Rattle.common.specs.declared.direction.Direction.TheVariants.{Input, Output}
 use Rattle.syntax.specs.Tree.{NameTree, LabelTree, ExpressionTree, RightTree, ReceivedTree, CalledTree, ValueTree, SizeTree, StatementTree, DeclareTree, DeclareArrayTree, AssignTree, AssignElementTree, CallTree', ReceiveTree, SendTree, IfTree, WhileTree, BreakTree, ContinueTree, ThrowTree, ReturnTree, TryTree, NestedTree, BlockTree, BlockOf, StatementTrees, NoStatement, StatementThen, CatchTrees, NoCatch, CatchThen, expression_at}
@@ -18,9 +19,9 @@ use Rattle.types.specs.declared.fault.TypeRefusalKind.TheVariants as refusals
 use Rattle.types.specs.declared.scope.ItemKind.TheVariants.{Channel, Exception, Procedure}
 use Rattle.types.specs.declared.scope.Meaning.TheVariants as meanings
 use Rattle.common.specs.Results.{along, ◌>>=◌}
-use Rattle.types.specs.Finding.{Finding, ◌gives◌, give_if, require, put_last}
+use Rattle.types.specs.Finding.{Finding, ◌gives◌, give_if, of_option, require, put_last}
 use Rattle.types.specs.Environment.{Environment, declaring, fresh_finding, use_as, item_of, scalar_of, array_of}
-use Rattle.types.specs.Labels.{LabelScope, optional_label_finding}
+use Rattle.types.specs.Labels.{LabelScope, label_finding, optional_label_finding}
 use Rattle.types.specs.Expressions.{expression_finding, typed_finding}
 use Rattle.common.specs.declared.limits.TheConstants.{MAX_ELEMENTS}
 
@@ -46,34 +47,27 @@ pub record Point : Type 0 where
 abbrev pub label_scope : Setting → Point → LabelScope
 label_scope setting point = record setting.outer { names = point.names; slots = point.slots }
 
--- the point after the declaration of a local, which takes the next slot
-abbrev pub with_variable : Point → (at : ℕ) → BaseType → Option Label → (name : List ℕ) → (size : Option ℕ) → Point
-with_variable point at base label name size = record point {
-  names = declaring name (meanings.Variable (Local (length point.slots)) base size) point.names;
-  slots = point.slots ++ record { base = base; size = size; written = label; at = at; name = name } ∷ [];
-}
+-- the point after the declaration of a parameter or a local, which takes the next slot. Its label is looked at before its name
+unfoldable pub declared_finding : LabelScope → Point → (at : ℕ) → BaseType → Option LabelTree → NameTree → (size : Option ℕ) → Finding Point
+declared_finding scope point at base label name size = do
+  written ← of_option (label_finding scope) label
+  fresh_finding (point.names name.text) name.at gives λ _. record point {
+    names = declaring name.text (meanings.Variable (Local (length point.slots)) base size) point.names;
+    slots = point.slots ++ record { base = base; size = size; written = written; at = at; name = name.text } ∷ [];
+  }
 
 -- ---- calls and right sides
 
--- arguments, each at a place that wants the type of its parameter
-unfoldable pub arguments_finding : Environment → List BaseType → List ExpressionTree → Finding (List Expression)
-arguments_finding names parameters arguments =
-    along (λ found tree. typed_finding names (slice_index_or parameters (length found) Int) tree gives λ e. found ++ e ∷ []) [] arguments
-
--- a call: its procedure, the arguments, and the type of its value, if it gives one. The count of the arguments is tested before they
--- are looked at
+-- a call: its procedure, the arguments, each at a place that wants the type of its parameter, and the type of its value, if it gives
+-- one. The count of the arguments is tested before they are looked at
 unfoldable pub call_finding : List Signature → Environment → NameTree × List ExpressionTree
     → Finding (ℕ × List Expression × Option BaseType)
 call_finding signatures names (name, written) = do
   procedure ← use_as (item_of Procedure) (names name.text) name.at
   let signature = slice_index_or signatures procedure (record { parameters = []; result = None })
   _ ← require (length signature.parameters == length written) refusals.WrongArgumentCount name.at
-  arguments_finding names signature.parameters written gives λ arguments. (procedure, arguments, signature.result)
-
--- whether a procedure gives a value, and one of a type
-abbrev pub gives_base : BaseType → Option BaseType → Bool
-gives_base base None = false
-gives_base base (Some given) = same_base given base
+  along (λ found tree. typed_finding names (slice_index_or signature.parameters (length found) Int) tree gives λ e. found ++ e ∷ []) [] written
+      gives λ arguments. (procedure, arguments, signature.result)
 
 -- what is assigned to a variable of a type, by a statement that begins at a byte. A number is received, so `receive` is refused where
 -- the variable holds another type; the value of a call is tested after its arguments, at the procedure's name
@@ -83,7 +77,7 @@ assigned_finding signatures names at target base (ReceivedTree receive_at channe
   use_as (item_of (Channel Input)) (names channel.text) channel.at gives λ number. Receive at number (Some target)
 assigned_finding signatures names at target base (CalledTree call) = do
   (procedure, arguments, result) ← call_finding signatures names call
-  give_if (gives_base base result) (Call at procedure arguments (Some target)) refusals.WrongType call.0.at
+  give_if (option_map_or (same_base base) result false) (Call at procedure arguments (Some target)) refusals.WrongType call.0.at
 assigned_finding signatures names at target base (ValueTree value) = typed_finding names base value gives Assign at target
 
 -- ---- declarations
@@ -92,29 +86,17 @@ assigned_finding signatures names at target base (ValueTree value) = typed_findi
 unfoldable pub size_finding : ℕ × ℕ → Finding ℕ
 size_finding (at, size) = give_if (nat_lt 0 size && nat_le size MAX_ELEMENTS) size refusals.ArraySize at
 
--- ---- returns
-
--- a value is looked at before it is refused in a procedure that gives none
-unfoldable pub return_finding : Option BaseType → Environment → (at : ℕ) → Option ExpressionTree → Finding Statement
-return_finding result names at None = give_if (is_none result) (ReturnWith at None) refusals.WrongType at
-return_finding result names at (Some value) = do
-  found ← expression_finding names value
-  give_if (gives_base found.1 result) (ReturnWith at (Some found.0)) refusals.WrongType (expression_at value)
-
 -- ---- statements, blocks and handlers
 
 unfoldable mutual
   pub statement_finding : Setting → Point → StatementTree → Finding (Point × Statement)
   -- the name of a local is tested before its right side, where the local is not in scope yet
   statement_finding setting point (DeclareTree at base label name value) = do
-    written ← optional_label_finding (label_scope setting point) label
-    _ ← fresh_finding (point.names name.text) name.at
-    assigned_finding setting.signatures point.names at (Local (length point.slots)) base value
-        gives λ statement. (with_variable point at base written name.text None, statement)
+    next ← declared_finding (label_scope setting point) point at base label name None
+    assigned_finding setting.signatures point.names at (Local (length point.slots)) base value gives λ statement. (next, statement)
   statement_finding setting point (DeclareArrayTree at base label name size) = do
-    written ← optional_label_finding (label_scope setting point) label
-    _ ← fresh_finding (point.names name.text) name.at
-    size_finding size gives λ count. (with_variable point at base written name.text (Some count), Clear at (length point.slots))
+    next ← declared_finding (label_scope setting point) point at base label name (Some size.1)
+    size_finding size gives λ _. (next, Clear at (length point.slots))
   statement_finding setting point (AssignTree target value) = do
     (x, base) ← use_as scalar_of (point.names target.text) target.at
     assigned_finding setting.signatures point.names target.at x base value gives λ statement. (point, statement)
@@ -140,8 +122,11 @@ unfoldable mutual
   statement_finding setting point (ContinueTree at) = Ok (point, Leave at exits.Continue)
   statement_finding setting point (ThrowTree at exception) =
       use_as (item_of Exception) (point.names exception.text) exception.at gives λ number. (point, Leave at (exits.Throw number))
-  statement_finding setting point (ReturnTree at value) =
-      return_finding setting.result point.names at value gives λ statement. (point, statement)
+  statement_finding setting point (ReturnTree at None) = give_if (is_none setting.result) (point, ReturnWith at None) refusals.WrongType at
+  -- a value is looked at before it is refused in a procedure that gives none
+  statement_finding setting point (ReturnTree at (Some value)) = do
+    (e, base) ← expression_finding point.names value
+    give_if (option_map_or (same_base base) setting.result false) (point, ReturnWith at (Some e)) refusals.WrongType (expression_at value)
   statement_finding setting point (TryTree at body catches) = do
     inner ← block_finding setting point body
     catches_finding setting inner.0 catches gives λ handled. (handled.0, Try at inner.1 handled.1)
@@ -195,3 +180,12 @@ declare_finding setting point at base label name value = statement_finding setti
 
 abbrev pub declare_array_finding : Setting → Point → (at : ℕ) → BaseType → Option LabelTree → NameTree → SizeTree → Finding (Point × Statement)
 declare_array_finding setting point at base label name size = statement_finding setting point (DeclareArrayTree at base label name size)
+
+-- whether a procedure gives a value, and one of a type
+abbrev pub gives_base : BaseType → Option BaseType → Bool
+gives_base base result = option_map_or (same_base base) result false
+
+-- arguments, each at a place that wants the type of its parameter
+abbrev pub arguments_finding : Environment → List BaseType → List ExpressionTree → Finding (List Expression)
+arguments_finding names parameters arguments =
+    along (λ found tree. typed_finding names (slice_index_or parameters (length found) Int) tree gives λ e. found ++ e ∷ []) [] arguments

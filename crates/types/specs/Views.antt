@@ -15,7 +15,7 @@ use Rattle.resolved.specs.declared.tables.Procedure.{Procedure}
 use Rattle.resolved.specs.declared.tables.Slot.{Slot}
 use Rattle.resolved.specs.declared.tables.Thrown.{Thrown}
 use Rattle.resolved.specs.WellFormed.{cell_count}
-use Rattle.resolved.specs.declared.expression.Value.{Value}
+use Rattle.common.specs.declared.value.Value.{Value}
 use Rattle.common.specs.declared.base_type.BaseType.{BaseType}
 use Rattle.resolved.specs.declared.expression.Variable.{Variable}
 use Rattle.resolved.specs.Tree.{Expression, Block, Handlers}

@@ -8,7 +8,6 @@ ghost use Rattle.types.specs.Resolution.{channel_finding, first_finding, global_
 ghost use Rattle.types.specs.VariableEntries.{HasMoreLabels, IsInside};
 ghost use Rattle.types.specs.Views.{Resolves, first_view, item_scope};
 ghost use Rattle.resolved.specs.ProgramOf.{channel_entry, global_entry};
-ghost use Rattle.resolved.specs.Value.{zero_value};
 ghost use Rattle.std.specs.Prelude.{IfOk, None, OnOk, length, ◌<◌, ◌≡◌};
 ghost use Rattle.syntax.specs.Limits.{most_nodes};
 ghost use Rattle.syntax.specs.Tree.{channel_tree, global_tree, global_value_tree};
@@ -20,8 +19,7 @@ use crate::label::ItemContext;
 use crate::operator::is_same;
 use crate::statement::resolve_size;
 use crate::variables::DeclaredVariables;
-use common::{BaseType, OrNoMemory};
-use resolved::expression::Value;
+use common::{BaseType, OrNoMemory, Value};
 use resolved::tables::{Channel, GlobalVariable};
 use syntax::{Constant, GlobalValue};
 
@@ -79,16 +77,6 @@ fn require_type(
     }
 }
 
-/// What each element of an array holds at first.
-fn zero_of(base: BaseType) -> Value
-    ensures { result ≡ zero_value base }
-{
-    match base {
-        BaseType::Int => Value::Number(0),
-        BaseType::Boolean => Value::Truth(false),
-    }
-}
-
 /// The length of a global that is an array, and what its cells hold at first.
 #[tactic(auto, unfolding(crate::specs::Resolution::first_finding))]
 fn resolve_first_value(
@@ -109,13 +97,13 @@ fn resolve_first_value(
         ) => require_type(
             BaseType::Int,
             base,
-            Value::Number(signed_of(*negative, *value)),
+            Value::Int(signed_of(*negative, *value)),
             *at,
         ),
         GlobalValue::Scalar(Constant::Truth { at, value }) => {
-            require_type(BaseType::Boolean, base, Value::Truth(*value), *at)
+            require_type(BaseType::Boolean, base, Value::Bool(*value), *at)
         }
-        GlobalValue::Array(size) => Ok((Some(resolve_size(*size)?), zero_of(base))),
+        GlobalValue::Array(size) => Ok((Some(resolve_size(*size)?), Value::zero_of(base))),
     }
 }
 

@@ -135,7 +135,7 @@ impl<'a> ItemContext<'a> {
     /// # Errors
     ///
     /// Those of [`LabelContext::resolve`].
-    #[tactic(auto, unfolding(crate::specs::Labels::optional_label_finding), using(crate::proofs::LabelNumbers::no_more))]
+    #[tactic(auto, unfolding(crate::specs::Finding::of_option), using(crate::proofs::LabelNumbers::no_more))]
     pub fn add_optional_label(
         &self,
         variables: &mut DeclaredVariables,
@@ -234,7 +234,7 @@ impl<'a> LabelContext<'a> {
     /// # Errors
     ///
     /// Those of [`LabelContext::resolve`].
-    #[tactic(auto, unfolding(crate::specs::Labels::optional_label_finding))]
+    #[tactic(auto, unfolding(crate::specs::Finding::of_option))]
     pub fn resolve_optional(
         &self,
         written: &Option<WrittenLabel<'_>>,

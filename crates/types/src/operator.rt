@@ -5,8 +5,8 @@ ghost use Rattle.resolved.specs.WellFormed.{prefix_base, same_base};
 ghost use Rattle.resolved.specs.TreeOf.{expression_of};
 ghost use Rattle.std.specs.Prelude.{IfOk, ◌≡◌};
 
-use common::{BaseType, Comparison, Prefix};
-use resolved::expression::{Expression, Operator};
+use common::{BaseType, Comparison, Operator, Prefix};
+use resolved::expression::Expression;
 use std::alloc::{AllocError, Global};
 use syntax::BinaryOperator;
 

@@ -25,7 +25,7 @@ use std::alloc::{AllocError, Global};
 use syntax::{Parameter, WrittenResult};
 
 /// The value of a procedure, if it gives one, with the number of its label.
-#[tactic(auto, unfolding(crate::specs::Resolution::result_finding))]
+#[tactic(auto, unfolding(crate::specs::Finding::of_option))]
 fn resolve_result(
     context: &ItemContext<'_>,
     variables: &mut DeclaredVariables,
@@ -52,6 +52,7 @@ fn resolve_result(
 
 impl<'a, 'n> BodyScope<'a, 'n> {
     /// Declares the next parameter.
+    #[tactic(auto, unfolding(crate::specs::Statements::declared_finding, crate::specs::Finding::of_option))]
     fn declare_parameter(&mut self, written: &Parameter<'n>) -> Result<(), TypeFault>
         requires room { taken self.old < most_nodes }
         ensures made { Resolves (λ _. point_of self.new) result

@@ -2,13 +2,13 @@
 
 ghost use Rattle.types.specs.Labels.{optional_label_finding};
 ghost use Rattle.types.specs.Statements as spec;
-ghost use Rattle.types.specs.Statements.{arguments_finding, assigned_finding, call_finding, declare_array_finding, declare_finding, label_scope, return_finding, size_finding, statement_finding};
+ghost use Rattle.types.specs.Statements.{arguments_finding, assigned_finding, call_finding, declare_array_finding, declare_finding, label_scope, size_finding, statement_finding};
 ghost use Rattle.types.specs.VariableEntries.{optional_label_with};
 ghost use Rattle.types.specs.Views.{Resolves, IsLater, at_point, call_use, expressions_of, itself, names_of, point_of, setting_of, signatures_of, taken};
 ghost use Rattle.resolved.specs.TreeOf.{statement_of};
 ghost use Rattle.std.specs.Prelude.{OnOk, map, ◌+◌, ◌<◌, ◌≡◌, ◌≤◌};
 ghost use Rattle.syntax.specs.Limits.{most_nodes};
-ghost use Rattle.syntax.specs.Tree.{AssignElementTree, AssignTree, CallTree', CalledTree, ReceiveTree, ReceivedTree, SendTree, ThrowTree, call_tree, expression_tree, name_tree, optional_expression_tree, optional_label_tree, right_tree, size_tree};
+ghost use Rattle.syntax.specs.Tree.{AssignElementTree, AssignTree, CallTree', CalledTree, ReceiveTree, ReceivedTree, ReturnTree, SendTree, ThrowTree, call_tree, expression_tree, name_tree, optional_expression_tree, optional_label_tree, right_tree, size_tree};
 
 use crate::body::BodyScope;
 use crate::fault::{TypeFault, TypeRefusal, TypeRefusalKind};
@@ -50,7 +50,6 @@ pub fn resolve_size(size: Size) -> Result<u32, TypeFault>
 
 impl<'a, 'n> BodyScope<'a, 'n> {
     /// The arguments of a call, at places that want the types of the parameters.
-    #[tactic(auto, unfolding(crate::specs::Statements::arguments_finding))]
     fn resolve_arguments(
         &self,
         parameters: &[BaseType],
@@ -177,7 +176,7 @@ impl<'a, 'n> BodyScope<'a, 'n> {
     ///
     /// Those of a label.
     #[inline(always)]
-    #[tactic(auto, unfolding(crate::specs::Labels::optional_label_finding))]
+    #[tactic(auto, unfolding(crate::specs::Finding::of_option))]
     fn resolve_local_label(
         &self,
         written: &Option<WrittenLabel<'_>>,
@@ -200,7 +199,7 @@ impl<'a, 'n> BodyScope<'a, 'n> {
     /// 301, 303, 305 and 403 in its label, 302 where its name is in scope already, then 301 and 401 to 403 in its first value; or
     /// out of memory.
     #[inline(never)]
-    #[tactic(auto, unfolding(crate::specs::Statements::statement_finding))]
+    #[tactic(auto, unfolding(crate::specs::Statements::statement_finding, crate::specs::Statements::declared_finding))]
     pub fn declare_scalar(
         &mut self,
         at: usize,
@@ -239,7 +238,7 @@ impl<'a, 'n> BodyScope<'a, 'n> {
     /// 301, 303, 305 and 403 in its label, 302 where its name is in scope already, then 703 where its length is not 1 to 65,536; or
     /// out of memory.
     #[inline(never)]
-    #[tactic(auto, unfolding(crate::specs::Statements::statement_finding))]
+    #[tactic(auto, unfolding(crate::specs::Statements::statement_finding, crate::specs::Statements::declared_finding))]
     pub fn declare_array(
         &mut self,
         at: usize,
@@ -393,15 +392,15 @@ impl<'a, 'n> BodyScope<'a, 'n> {
     /// 301, 401 and 403 in the value; then 401 where a value is missing, is not to be given, or has another type than the
     /// procedure gives; or out of memory.
     #[inline(never)]
-    #[tactic(auto, unfolding(crate::specs::Statements::return_finding))]
+    #[tactic(auto, unfolding(crate::specs::Statements::statement_finding))]
     pub fn resolve_return(
         &self,
         at: usize,
         value: &Option<syntax::Expression<'_>>,
     ) -> Result<Statement, TypeFault>
-        ensures { Resolves statement_of result
-            (return_finding self.now.result (names_of self.now) at
-            (optional_expression_tree value.now)) }
+        ensures { Resolves (at_point self.now statement_of) result
+            (statement_finding (setting_of self.now) (point_of self.now)
+            (ReturnTree at (optional_expression_tree value.now))) }
     {
         match value {
             None => match self.result {
@@ -432,6 +431,6 @@ fn gives(base: BaseType, given: Option<BaseType>) -> bool
 {
     match given {
         None => false,
-        Some(given) => is_same(given, base),
+        Some(given) => is_same(base, given),
     }
 }

@@ -7,12 +7,13 @@ use Rattle.modules.specs.Contents.{ProcedureContents, ModuleContents}
 use Rattle.modules.specs.Machine as machine
 use Rattle.modules.specs.Transitions as transitions
 use Rattle.modules.specs.MachineParts as pieces
-use Rattle.modules.specs.Machine.{State, Caller, Machine, Running, Ended, Deep, Header, machine_code, header_of}
+use Rattle.modules.specs.Machine.{State, Caller, Machine, Running, Ended, Deep, Header, machine_code, header_of, parameter_kinds}
 use Rattle.modules.specs.MachineParts.{code_of, position_after, kinds_of}
-use Rattle.modules.specs.Values.{kind_of, is_same_kind}
+use Rattle.common.specs.Values.{kind_of}
+use Rattle.modules.specs.Values.{is_same_kind}
 use Rattle.modules.specs.declared.instruction.Instruction.TheVariants.{Call, Return, ReturnValue}
 use Rattle.common.specs.declared.base_type.BaseType.{BaseType}
-use Rattle.modules.specs.declared.value.Cell.{Cell}
+use Rattle.common.specs.declared.value.Value.{Value as Cell}
 use Rattle.verifier.specs.Refusals.{IsNotRefused}
 use Rattle.verifier.specs.Flow.{Effect, Leaves, Misses, and_then, all_popped, effect, exchanged}
 use Rattle.verifier.specs.SignatureParts.{pushed}
@@ -69,7 +70,7 @@ get_header (x ∷ procedures) (suc k) p e = get_header procedures k p e
 module _ (m : ModuleContents) (free : IsNotRefused m) (p : ProcedureContents) (s : State) where
   -- ---- a call
 
-  enters_good : (callee : ProcedureContents) (number : ℕ) (rest : List BaseType) → Stands m p s (Call number) (map kind_of s.frame.operands) → slice_get m.procedures number ≡ Some callee → effect m p (Call number) (map kind_of s.frame.operands) ≡ Leaves (pushed callee.returned rest) → (arguments left : List Cell) → map kind_of arguments ≡ (header_of callee).parameters → map kind_of left ≡ rest → Good m (transitions.enters (machine_code m) s number callee.slots (Some (arguments, left)))
+  enters_good : (callee : ProcedureContents) (number : ℕ) (rest : List BaseType) → Stands m p s (Call number) (map kind_of s.frame.operands) → slice_get m.procedures number ≡ Some callee → effect m p (Call number) (map kind_of s.frame.operands) ≡ Leaves (pushed callee.returned rest) → (arguments left : List Cell) → map kind_of arguments ≡ parameter_kinds callee → map kind_of left ≡ rest → Good m (transitions.enters (machine_code m) s number callee.slots (Some (arguments, left)))
   enters_good callee number rest st there e arguments left kinds is = split (nat_lt (length s.callers + 1) MAX_FRAMES)
     where
       resumes : position_after (instruction_at (code_of (slice_get m.procedures s.frame.procedure)) s.frame.position) s.frame.position ≡ s.frame.position + width_of (Call number)
@@ -105,7 +106,7 @@ module _ (m : ModuleContents) (free : IsNotRefused m) (p : ProcedureContents) (s
   pub calls_good : (number : ℕ) (callee : ProcedureContents) (after : List BaseType) → Stands m p s (Call number) (map kind_of s.frame.operands) → slice_get m.procedures number ≡ Some callee → effect m p (Call number) (map kind_of s.frame.operands) ≡ Leaves after → Good m (pieces.calls (machine_code m) s number (slice_get (machine_code m).headers number))
   calls_good number callee after st there e =
       let kinds = map kind_of s.frame.operands in
-      let parameters = (header_of callee).parameters in
+      let parameters = parameter_kinds callee in
       let own : exchanged (called (Some callee)) kinds ≡ Leaves after = ap (λ o. if (called o).own then exchanged (called o) kinds else Misses OperandKind) (sym there) ∙ e in
       let popped_first = and_then_leaves (all_popped (map (λ kind. Some kind) (reverse parameters)) kinds) (λ rest. Leaves (pushed callee.returned rest)) after own in
       let all = pops (reverse parameters) [] s.frame.operands popped_first.0 popped_first.1.0 in

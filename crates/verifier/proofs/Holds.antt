@@ -6,10 +6,11 @@ use Rattle.std.proofs.lemmas.Bool.{eqb-true}
 use Rattle.modules.specs.Transitions.{scalar_cell}
 use Rattle.modules.specs.Machine.{element_at, with_element, first_cells, first_slots, first_global}
 use Rattle.modules.specs.MachineParts.{slot_of, first_slot, cells_of_global, kinds_of}
-use Rattle.modules.specs.Values.{kind_of, zero_of, is_same_kind}
+use Rattle.common.specs.Values.{kind_of, zero_of}
+use Rattle.modules.specs.Values.{is_same_kind}
 use Rattle.common.specs.declared.base_type.BaseType.{BaseType}
 use Rattle.common.specs.declared.base_type.BaseType.TheVariants as kind
-use Rattle.modules.specs.declared.value.Cell.{Cell}
+use Rattle.common.specs.declared.value.Value.{Value as Cell}
 use Rattle.modules.specs.declared.declaration.Slot.{Slot}
 use Rattle.modules.specs.declared.declaration.Slot.TheVariants as slot
 use Rattle.modules.specs.declared.declaration.Global.{Global}

@@ -11,14 +11,15 @@ use Rattle.modules.specs.Machine.{State, Machine, Running, machine_code, cells_a
 use Rattle.modules.specs.Transitions.{declared_at, act}
 use Rattle.modules.specs.MachineParts.{code_of, slots_of, slots_in, acts}
 use Rattle.modules.specs.FormatParts.{may_start}
-use Rattle.modules.specs.Values.{kind_of, kind_of_slot}
+use Rattle.common.specs.Values.{kind_of}
+use Rattle.modules.specs.Values.{kind_of_slot}
 use Rattle.modules.specs.declared.instruction.Instruction.{Instruction}
 use Rattle.modules.specs.declared.instruction.Storage.{Storage}
 use Rattle.modules.specs.declared.instruction.Storage.TheVariants.{Local, Global}
 use Rattle.modules.specs.declared.instruction.Instruction.TheVariants.{Push, PushBoolean, Pop, Load, Store, LoadElement, StoreElement, Clear, Operate, Jump, JumpIfFalse, Call, Return, ReturnValue, Receive, Send, Throw}
 use Rattle.common.specs.declared.base_type.BaseType.{BaseType}
-use Rattle.modules.specs.declared.value.Cell.{Cell}
-use Rattle.modules.specs.declared.value.Cell.TheVariants as cell
+use Rattle.common.specs.declared.value.Value.{Value as Cell}
+use Rattle.common.specs.declared.value.Value.TheVariants as cell
 use Rattle.modules.specs.declared.declaration.Slot.{Slot}
 use Rattle.verifier.specs.Refusals.{IsNotRefused}
 use Rattle.verifier.specs.Fixed.{instruction_refusal}

@@ -11,11 +11,12 @@ use Rattle.modules.specs.Machine as machine
 use Rattle.modules.specs.Machine.{State, Frame, Caller, Machine, Running, Ended, Finished, Threw, machine_code, handler_for, unwound, raised}
 use Rattle.modules.specs.Transitions.{handled}
 use Rattle.modules.specs.MachineParts.{code_of, handlers_of, position_after, leaves, leaves_value}
-use Rattle.modules.specs.Values.{is_same_kind, kind_of}
+use Rattle.common.specs.Values.{kind_of}
+use Rattle.modules.specs.Values.{is_same_kind}
 use Rattle.modules.specs.declared.instruction.Instruction.{Instruction}
 use Rattle.modules.specs.declared.instruction.Instruction.TheVariants.{Call}
 use Rattle.common.specs.declared.base_type.BaseType.{BaseType}
-use Rattle.modules.specs.declared.value.Cell.{Cell}
+use Rattle.common.specs.declared.value.Value.{Value as Cell}
 use Rattle.modules.specs.declared.declaration.Handler.{Handler}
 use Rattle.verifier.specs.Refusals.{IsNotRefused}
 use Rattle.modules.specs.Targets.{goes_on, target_of}

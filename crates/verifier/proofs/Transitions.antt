@@ -8,14 +8,15 @@ use Rattle.modules.specs.MachineParts as pieces
 use Rattle.modules.specs.Machine.{State, machine_code, element_at, with_element}
 use Rattle.modules.specs.MachineParts.{operates, with_slot}
 use Rattle.common.specs.declared.exceptions.TheConstants.{ARITH, BOUNDS, END}
-use Rattle.modules.specs.Values.{kind_of, zero_of, is_same_kind}
+use Rattle.common.specs.Values.{kind_of, zero_of}
+use Rattle.modules.specs.Values.{is_same_kind}
 use Rattle.modules.specs.Operators.{OperatorFunction, ValueOf, applied, cell_of, operated, rule_of}
 use Rattle.modules.specs.declared.instruction.MachineOperator.{MachineOperator}
 use Rattle.modules.specs.declared.instruction.Instruction.{Instruction}
 use Rattle.common.specs.declared.base_type.BaseType.{BaseType}
 use Rattle.common.specs.declared.base_type.BaseType.TheVariants as kind
-use Rattle.modules.specs.declared.value.Cell.{Cell}
-use Rattle.modules.specs.declared.value.Cell.TheVariants as cell
+use Rattle.common.specs.declared.value.Value.{Value as Cell}
+use Rattle.common.specs.declared.value.Value.TheVariants as cell
 use Rattle.modules.specs.declared.declaration.Slot.{Slot}
 use Rattle.modules.specs.declared.declaration.Slot.TheVariants as slot
 use Rattle.common.specs.declared.direction.Direction.{Direction}

@@ -30,16 +30,12 @@ instruction_refusal m procedure instruction =
     then unless (signature m procedure instruction).there kind.SlotOrIndex
     else Some kind.Jump
 
--- whether a range may end at an offset: at an instruction's first byte or at the end of the code
-abbrev pub is_end : ProcedureContents → ℕ → Bool
-is_end procedure offset = is_start procedure offset || offset == length (code_bytes procedure.code)
-
 -- whether the offsets of a handler are right: its start and target are instructions' first bytes, its end is one or the code's
 -- length, and the start stands before the end
 abbrev pub has_right_offsets : ProcedureContents → Handler → Bool
 has_right_offsets procedure handler =
     is_start procedure handler.start && (is_start procedure handler.target
-    && (is_end procedure handler.end && nat_lt handler.start handler.end))
+    && ((is_start procedure handler.end || handler.end == length (code_bytes procedure.code)) && nat_lt handler.start handler.end))
 
 -- what is wrong with a handler
 abbrev pub handler_refusal : ModuleContents → ProcedureContents → Handler → Option CodeRefusalKind
@@ -74,3 +70,9 @@ procedure_refusals m number (procedure ∷ procedures) =
 -- the fixed refusals of a module: procedures in order, instructions by offset, then handlers in order
 abbrev pub fixed_refusals : ModuleContents → List CodeRefusal
 fixed_refusals m = procedure_refusals m 0 m.procedures
+
+-- ---- parts of the rules, by which proofs speak of them
+
+-- whether a range may end at an offset: at an instruction's first byte or at the end of the code
+abbrev pub is_end : ProcedureContents → ℕ → Bool
+is_end procedure offset = is_start procedure offset || offset == length (code_bytes procedure.code)

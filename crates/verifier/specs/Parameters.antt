@@ -2,9 +2,9 @@
 -- Source: our own.
 use Rattle.std.specs.Prelude.{ℕ, List, reverse}
 use Rattle.modules.specs.Contents.{ProcedureContents}
-use Rattle.modules.specs.Machine.{header_of}
+use Rattle.modules.specs.Machine.{parameter_kinds}
 use Rattle.verifier.specs.Operands.{full_blocks}
 
 -- the kinds of the parameters, the last one first, in all blocks that they fill
 abbrev pub parameter_blocks : ProcedureContents → List ℕ
-parameter_blocks procedure = full_blocks (reverse (header_of procedure).parameters)
+parameter_blocks procedure = full_blocks (reverse (parameter_kinds procedure))

@@ -4,7 +4,7 @@
 use Rattle.std.specs.Prelude.{ℕ, nat_lt, Bool, true, false, List, [], ◌∷◌, map, reverse, slice_get, Option, Some, None, is_none, is_some}
 use Rattle.std.specs.Option.{option_map_or, option_to_list}
 use Rattle.modules.specs.Contents.{ProcedureContents, ModuleContents}
-use Rattle.modules.specs.Machine.{header_of, machine_code}
+use Rattle.modules.specs.Machine.{machine_code, parameter_kinds}
 use Rattle.modules.specs.Opcodes.{by_storage}
 use Rattle.modules.specs.Operators.{rule_of}
 use Rattle.modules.specs.Values.{kind_of_slot}
@@ -72,7 +72,7 @@ array slot signature = naming (is_array slot) (signature (slot_kind slot))
 
 -- a call pops the arguments, the last one first, and its return pushes the value, if there is one
 abbrev pub called : Option ProcedureContents → InstructionSignature
-called callee = option_map_or (λ c. exchange (reverse (header_of c).parameters) c.returned) callee (exchange [] None)
+called callee = option_map_or (λ c. exchange (reverse (parameter_kinds c)) c.returned) callee (exchange [] None)
 
 -- ---- the entries
 

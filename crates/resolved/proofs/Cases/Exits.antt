@@ -4,7 +4,7 @@ use Rattle.std.specs.Prelude.{Some, None}
 use Rattle.std.specs.Int.{int_wrap}
 use Rattle.common.specs.declared.base_type.BaseType.TheVariants.{Int}
 use Rattle.resolved.specs.declared.expression.Variable.TheVariants.{Local}
-use Rattle.resolved.specs.declared.expression.Operator.TheVariants.{Compute}
+use Rattle.common.specs.declared.operator.Operator.TheVariants.{Compute}
 use Rattle.common.specs.declared.operator.Arithmetic.TheVariants.{Subtract, Multiply, Divide, Remainder}
 use Rattle.common.specs.declared.operator.Prefix.TheVariants.{Negate}
 use Rattle.resolved.specs.declared.statement.Exit.TheVariants.{Normal, Return, Break, Continue, Throw}

@@ -4,14 +4,14 @@ use Rattle.std.specs.Prelude.{pos, Some, None}
 use Rattle.labels.specs.Label.{Label}
 use Rattle.common.specs.declared.base_type.BaseType.TheVariants.{Int, Boolean}
 use Rattle.resolved.specs.declared.expression.Variable.TheVariants.{Local}
-use Rattle.resolved.specs.declared.expression.Operator.TheVariants.{Compute, Compare, Match}
+use Rattle.common.specs.declared.operator.Operator.TheVariants.{Compute, Compare, Match}
 use Rattle.common.specs.declared.operator.Arithmetic.TheVariants.{Add}
 use Rattle.common.specs.declared.operator.Comparison.TheVariants.{Ordered, Matched}
 use Rattle.common.specs.declared.operator.Order.TheVariants.{LessThan}
 use Rattle.common.specs.declared.operator.Sameness.TheVariants.{Same}
 use Rattle.common.specs.declared.operator.Prefix.TheVariants.{Not}
 use Rattle.common.specs.declared.operator.Connective.TheVariants.{And, Or}
-use Rattle.resolved.specs.declared.expression.Value.TheVariants.{Number, Truth}
+use Rattle.common.specs.declared.value.Value.TheVariants.{Int as Number, Bool as Truth}
 use Rattle.resolved.specs.declared.statement.Exit.TheVariants.{Normal, Throw}
 use Rattle.resolved.specs.Tree.{Expression, Logical, Element, Unary, Binary, Short, Statement, Clear, Store, Receive, Send, Call, While, Leave, ReturnWith, Nested, Empty}
 use Rattle.resolved.specs.Program.{ProcedureEntry, SlotEntry, GlobalEntry}

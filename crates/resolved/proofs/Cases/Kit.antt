@@ -10,7 +10,7 @@ use Rattle.labels.specs.LabelLattice.{label_lattice}
 use Rattle.common.specs.declared.sent.Pair.{Pair}
 use Rattle.common.specs.declared.base_type.BaseType.TheVariants.{Int}
 use Rattle.resolved.specs.declared.expression.Variable.TheVariants.{Local}
-use Rattle.resolved.specs.declared.expression.Operator.TheVariants.{Compare}
+use Rattle.common.specs.declared.operator.Operator.TheVariants.{Compare}
 use Rattle.common.specs.declared.operator.Comparison.TheVariants.{Ordered}
 use Rattle.common.specs.declared.operator.Order.TheVariants.{GreaterThan}
 use Rattle.common.specs.declared.operator.Prefix.TheVariants.{Negate}

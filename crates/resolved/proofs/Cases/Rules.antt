@@ -7,7 +7,7 @@ use Rattle.std.specs.Int.{int_wrap}
 use Rattle.labels.specs.Label.{Label}
 use Rattle.common.specs.declared.base_type.BaseType.TheVariants.{Int}
 use Rattle.resolved.specs.declared.expression.Variable.TheVariants.{Local}
-use Rattle.resolved.specs.declared.expression.Operator.TheVariants.{Compute, Compare}
+use Rattle.common.specs.declared.operator.Operator.TheVariants.{Compute, Compare}
 use Rattle.common.specs.declared.operator.Arithmetic.TheVariants.{Add, Divide}
 use Rattle.common.specs.declared.operator.Comparison.TheVariants.{Ordered, Matched}
 use Rattle.common.specs.declared.operator.Order.TheVariants.{LessThan}

@@ -4,14 +4,14 @@ use Rattle.std.specs.Prelude.{ℤ, pos, negsuc, Some, None}
 use Rattle.std.specs.Int.{int_wrap}
 use Rattle.common.specs.declared.base_type.BaseType.TheVariants.{Int}
 use Rattle.resolved.specs.declared.expression.Variable.TheVariants.{Global, Local}
-use Rattle.resolved.specs.declared.expression.Operator.TheVariants.{Compute, Compare}
+use Rattle.common.specs.declared.operator.Operator.TheVariants.{Compute, Compare}
 use Rattle.common.specs.declared.operator.Arithmetic.TheVariants.{Add, Subtract, Multiply, Divide, Remainder}
 use Rattle.common.specs.declared.operator.Comparison.TheVariants.{Ordered, Matched}
 use Rattle.common.specs.declared.operator.Order.TheVariants.{LessThan}
 use Rattle.common.specs.declared.operator.Sameness.TheVariants.{Same}
 use Rattle.common.specs.declared.operator.Connective.TheVariants.{And, Or}
 use Rattle.common.specs.declared.operator.Prefix.TheVariants.{Negate}
-use Rattle.resolved.specs.declared.expression.Value.TheVariants.{Number}
+use Rattle.common.specs.declared.value.Value.TheVariants.{Int as Number}
 use Rattle.resolved.specs.declared.statement.Exit.TheVariants.{Break, Continue, Throw}
 use Rattle.resolved.specs.Tree.{Expression, Logical, Read, Element, Unary, Binary, Short, Assign, Clear, Store, Receive, Call, Leave, ReturnWith, Catch}
 use Rattle.resolved.specs.Program.{Program}

@@ -5,8 +5,8 @@ use Rattle.std.proofs.lemmas.Bool.{and_parts, false≢true}
 use Rattle.std.specs.Prelude.{Option, Some, None, is_none, if◌then◌else◌, ◌==◌, slice_get, ℤ}
 use Rattle.common.specs.declared.base_type.BaseType.{BaseType}
 use Rattle.common.specs.declared.base_type.BaseType.TheVariants.{Int, Boolean}
-use Rattle.resolved.specs.declared.expression.Value.{Value}
-use Rattle.resolved.specs.declared.expression.Value.TheVariants.{Number}
+use Rattle.common.specs.declared.value.Value.{Value}
+use Rattle.common.specs.declared.value.Value.TheVariants.{Int as Number}
 use Rattle.resolved.specs.declared.expression.Variable.{Variable}
 use Rattle.resolved.specs.declared.expression.Variable.TheVariants.{Global, Local}
 use Rattle.resolved.specs.declared.statement.Exit.{Exit}
@@ -14,7 +14,8 @@ use Rattle.resolved.specs.declared.statement.Exit.TheVariants.{Normal, Return, B
 use Rattle.common.specs.declared.direction.Direction.TheVariants.{Input}
 use Rattle.resolved.specs.Tree.{Expression, Statement, Assign, Clear, Store, Receive, Send, Call, If, While, Leave, ReturnWith, Try, Nested, Block, Empty, Then, Handlers, NoMore, Catch}
 use Rattle.resolved.specs.Program.{Program, ProcedureEntry, ResultEntry, SlotEntry}
-use Rattle.resolved.specs.Value.{Evaluated, Yields, Raises, base_of, checked_index, truth_in}
+use Rattle.common.specs.Values.{kind_of, truth_in}
+use Rattle.resolved.specs.Value.{Evaluated, Yields, Raises, checked_index}
 use Rattle.resolved.specs.SourceState.{SourceState, cells, assigned, stored, value_of, values_of}
 use Rattle.resolved.specs.Meaning.{Outcome, Ended, Stopped, Calls, normally, after, evaluated, looped, fuel, caught, received, given_to, sending, leaving, returned_to, entering, calls_with, statement_meaning, block_meaning, handlers_meaning}
 use Rattle.resolved.specs.WellFormed.{VariableType, variable_type, scalar_by, array_by, has_length, has_base, has_result, same_base, target_by, statement_fits, block_fits, handlers_fit, channel_is, is_exception, call_matches, arguments_match, parameters_of, well_formed}
@@ -108,13 +109,13 @@ array_found length test (Some found) type h e =
 
 module _ (program : Program) (procedure : ProcedureEntry) where
   kept_fits : (target : Option Variable) (v : Value) (s : SourceState) → StateFits program procedure s
-      → target_by program procedure target (same_base (base_of v)) ≡ true → StateFits program procedure (given_to target (Some v) s)
+      → target_by program procedure target (same_base (kind_of v)) ≡ true → StateFits program procedure (given_to target (Some v) s)
   kept_fits None v s state h = state
   kept_fits (Some x) v s state h =
       assigned_fits program procedure s x v state (λ type e.
-      let parts : (is_none type.size ≡ true) × (same_base (base_of v) type.base ≡ true) =
-      scalar_found (same_base (base_of v)) (variable_type program procedure x) type h e in
-      (parts.0, same_base_is (base_of v) type.base parts.1))
+      let parts : (is_none type.size ≡ true) × (same_base (kind_of v) type.base ≡ true) =
+      scalar_found (same_base (kind_of v)) (variable_type program procedure x) type h e in
+      (parts.0, same_base_is (kind_of v) type.base parts.1))
 
   received_fits : (numbers : List ℤ) (channel : ℕ) (target : Option Variable) (s : SourceState) → StateFits program procedure s
       → target_by program procedure target (same_base Int) ≡ true
@@ -146,7 +147,7 @@ module _ (program : Program) (procedure : ProcedureEntry) where
     state = assigned_fits program procedure s x v h.state (λ type e.
         let parts : (is_none type.size ≡ true) × (has_result callee (same_base type.base) ≡ true) =
         scalar_found (λ base. has_result callee (same_base base)) (variable_type program procedure x) type k e in
-        (parts.0, one_result callee (base_of v) type.base h.returned parts.1));
+        (parts.0, one_result callee (kind_of v) type.base h.returned parts.1));
     returned = tt;
   }
   returned_to_fits callee (Some x) (Ended Normal None s) h k result = record { state = h.state; returned = tt }
@@ -163,8 +164,8 @@ module _ (program : Program) (procedure : ProcedureEntry) where
   returned_to_fits callee target (Stopped stop s) h k result = record { state = h.state; returned = tt }
 
 -- ---- the tree
-pub base_given : (base : BaseType) (result : Evaluated Value) (v : Value) → result ≡ Yields v → GivesBase base result → base_of v ≡ base
-base_given base (Yields w) v e h = ap base_of (sym (same_value w v e)) ∙ h
+pub base_given : (base : BaseType) (result : Evaluated Value) (v : Value) → result ≡ Yields v → GivesBase base result → kind_of v ≡ base
+base_given base (Yields w) v e h = ap kind_of (sym (same_value w v e)) ∙ h
   where
     same_value : (w v : Value) → ◌≡◌ {A = Evaluated Value} (Yields w) (Yields v) → w ≡ v
     same_value w v e = cc

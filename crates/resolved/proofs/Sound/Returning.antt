@@ -2,13 +2,14 @@
 use Rattle.std.proofs.Common.{◌≡◌, sym, ap, ◌∙◌, ℕ, zero, suc, List, [], ◌∷◌, Bool, true, false, ◌&&◌, ◌==◌}
 use Rattle.std.specs.Prelude.{Option, Some, None, is_none, if◌then◌else◌, ℤ}
 use Rattle.std.proofs.lemmas.Bool.{and_parts}
-use Rattle.resolved.specs.declared.expression.Value.{Value}
+use Rattle.common.specs.declared.value.Value.{Value}
 use Rattle.common.specs.declared.base_type.BaseType.TheVariants.{Boolean}
 use Rattle.resolved.specs.declared.expression.Variable.{Variable}
 use Rattle.resolved.specs.declared.statement.Exit.TheVariants.{Normal, Return, Break, Continue, Throw}
 use Rattle.resolved.specs.Tree.{Statement, Assign, Clear, Store, Receive, Send, Call, If, While, Leave, ReturnWith, Try, Nested, Block, Empty, Then, Handlers, NoMore, Catch}
 use Rattle.resolved.specs.Program.{Program, ProcedureEntry, ResultEntry}
-use Rattle.resolved.specs.Value.{Evaluated, Yields, Raises, checked_index, truth_in}
+use Rattle.common.specs.Values.{truth_in}
+use Rattle.resolved.specs.Value.{Evaluated, Yields, Raises, checked_index}
 use Rattle.resolved.specs.SourceState.{SourceState, value_of, values_of}
 use Rattle.resolved.specs.Meaning.{Outcome, Ended, Stopped, after, evaluated, looped, fuel, caught, received, leaving, returned_to, calls_with, statement_meaning, block_meaning, handlers_meaning}
 use Rattle.resolved.specs.WellFormed.{has_base, statement_fits, block_fits, handlers_fit, is_exception}

@@ -6,7 +6,7 @@ use Rattle.std.proofs.lemmas.Bool.{eqb-true, and_parts}
 use Rattle.resolved.specs.declared.expression.Variable.{Variable}
 use Rattle.resolved.specs.declared.expression.Variable.TheVariants.{Global, Local}
 use Rattle.resolved.specs.Program.{Program, ProcedureEntry, GlobalEntry, procedure_at}
-use Rattle.resolved.specs.Value.{base_of}
+use Rattle.common.specs.Values.{kind_of}
 use Rattle.resolved.specs.SourceState.{World, cells}
 use Rattle.resolved.specs.Meaning.{entering, first_state, first_cells_of_globals}
 use Rattle.resolved.specs.WellFormed.{VariableType, variable_type, global_type, same_base, size_fits, label_fits, first_fits, main_fits, well_formed}
@@ -34,7 +34,7 @@ first_state_fits program procedure world h = record { fits = go }
         let same : record { base = entry.base; size = entry.size } ≡ type = some_same e' in
         subst (λ t. CellsFit t (first_cells_of_globals (Some entry))) same
         (cells_of_fit entry.base entry.size entry.first
-        (same_base_is (base_of entry.first) entry.base (and_parts (same_base (base_of entry.first) entry.base) _ fit).0))
+        (same_base_is (kind_of entry.first) entry.base (and_parts (same_base (kind_of entry.first) entry.base) _ fit).0))
 
     go : (x : Variable) (type : VariableType) → variable_type program (no_slots procedure) x ≡ Some type
         → CellsFit type (cells (first_state program world) x)

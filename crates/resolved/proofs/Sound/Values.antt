@@ -6,17 +6,19 @@ use Rattle.std.proofs.lemmas.List.Elements.{All-get_or}
 use Rattle.std.proofs.lemmas.Bool.Decides.{nat_tests}
 use Rattle.common.specs.declared.base_type.BaseType.{BaseType}
 use Rattle.common.specs.declared.base_type.BaseType.TheVariants.{Int, Boolean}
-use Rattle.resolved.specs.declared.expression.Value.{Value}
-use Rattle.resolved.specs.declared.expression.Value.TheVariants.{Number}
+use Rattle.common.specs.declared.value.Value.{Value}
+use Rattle.common.specs.declared.value.Value.TheVariants.{Int as Number}
 use Rattle.resolved.specs.declared.expression.Variable.{Variable}
 use Rattle.common.specs.declared.operator.Prefix.{Prefix}
 use Rattle.common.specs.declared.operator.Prefix.TheVariants.{Negate, Not}
-use Rattle.resolved.specs.declared.expression.Operator.{Operator}
-use Rattle.resolved.specs.declared.expression.Operator.TheVariants.{Compute, Compare, Match}
+use Rattle.common.specs.declared.operator.Operator.{Operator}
+use Rattle.common.specs.declared.operator.Operator.TheVariants.{Compute, Compare, Match}
 use Rattle.common.specs.declared.operator.Connective.{Connective}
 use Rattle.resolved.specs.Tree.{Expression, Integer, Logical, Read, Element, Unary, Binary, Short}
 use Rattle.resolved.specs.Program.{Program, ProcedureEntry, SlotEntry}
-use Rattle.resolved.specs.Value.{Evaluated, Yields, Raises, then_with, base_of, operator_value, or_arith, prefix_value, checked_index, number_in, in_range, decides}
+use Rattle.common.specs.Values.{kind_of, number_in}
+use Rattle.common.specs.Operators.{prefix_value}
+use Rattle.resolved.specs.Value.{Evaluated, Yields, Raises, then_with, operator_evaluated, or_arith, checked_index, in_range, decides}
 use Rattle.resolved.specs.SourceState.{SourceState, cells, cell_at, value_of, values_of}
 use Rattle.resolved.specs.WellFormed.{VariableType, variable_type, scalar_by, array_by, has_length, cell_count, same_base, prefix_base, result_base, has_base, arguments_match}
 use Rattle.resolved.specs.Kinds.{CellsFit, StateFits, GivesBase, ArgumentsFit}
@@ -36,7 +38,7 @@ same_base_itself Int = refl
 same_base_itself Boolean = refl
 
 -- ---- operators
-prefix_keeps : (prefix : Prefix) (v : Value) → base_of (prefix_value prefix v) ≡ prefix_base prefix
+prefix_keeps : (prefix : Prefix) (v : Value) → kind_of (prefix_value prefix v) ≡ prefix_base prefix
 prefix_keeps Negate v = refl
 prefix_keeps Not v = refl
 
@@ -44,7 +46,7 @@ or_arith_gives : (found : Option ℤ) → GivesBase Int (or_arith found)
 or_arith_gives None = tt
 or_arith_gives (Some z) = refl
 
-operator_gives : (operator : Operator) (v w : Value) → GivesBase (result_base operator) (operator_value operator v w)
+operator_gives : (operator : Operator) (v w : Value) → GivesBase (result_base operator) (operator_evaluated operator v w)
 operator_gives (Compute operator) v w = or_arith_gives (computed operator (number_in v) (number_in w))
 operator_gives (Compare comparison) v w = refl
 operator_gives (Match sameness) v w = refl
@@ -60,9 +62,9 @@ then_gives base (Yields v) next h = h v refl
 then_gives base (Raises exception) next h = tt
 
 cell_fits : (type : VariableType) (values : List Value) (i : ℕ)
-    → CellsFit type values → i < cell_count type.size → base_of (cell_at values i) ≡ type.base
+    → CellsFit type values → i < cell_count type.size → kind_of (cell_at values i) ≡ type.base
 cell_fits type values i fit below =
-    All-get_or (λ v. base_of v ≡ type.base) values i (Number (pos 0)) (rw fit.count below) fit.kinds
+    All-get_or (λ v. kind_of v ≡ type.base) values i (Number (pos 0)) (rw fit.count below) fit.kinds
 
 -- an index that was tested is below the length
 pub checked_below : (v : Value) (length i : ℕ) → checked_index v length ≡ Yields i → i < length
@@ -81,7 +83,7 @@ checked_below v length i h = go (number_in v) h
 
 -- the right operand of a connective where the left one does not decide
 right_gives : (base : BaseType) (test : Bool) (v : Value) (right : Evaluated Value)
-    → base_of v ≡ base → GivesBase base right → GivesBase base (if test then Yields v else right)
+    → kind_of v ≡ base → GivesBase base right → GivesBase base (if test then Yields v else right)
 right_gives base true v right left h = left
 right_gives base false v right left h = h
 
@@ -94,11 +96,11 @@ connective_gives base connective (Raises exception) right same h k = tt
 
 module _ (program : Program) (procedure : ProcedureEntry) (s : SourceState) (state : StateFits program procedure s) where
   scalar_read : (base : BaseType) (x : Variable) → scalar_by (variable_type program procedure x) (same_base base) ≡ true
-      → base_of (cell_at (cells s x) 0) ≡ base
+      → kind_of (cell_at (cells s x) 0) ≡ base
   scalar_read base x h = go (variable_type program procedure x) refl h
     where
       go : (found : Option VariableType) → variable_type program procedure x ≡ found → scalar_by found (same_base base) ≡ true
-          → base_of (cell_at (cells s x) 0) ≡ base
+          → kind_of (cell_at (cells s x) 0) ≡ base
       go None e h = cc
       go (Some type) e h =
           let parts : (is_none type.size ≡ true) × (same_base base type.base ≡ true) = and_parts (is_none type.size) _ h in
@@ -110,11 +112,11 @@ module _ (program : Program) (procedure : ProcedureEntry) (s : SourceState) (sta
 
   element_read : (base : BaseType) (array : Variable) (length : ℕ) (i : ℕ)
       → array_by (variable_type program procedure array) length (same_base base) ≡ true → i < length
-      → base_of (cell_at (cells s array) i) ≡ base
+      → kind_of (cell_at (cells s array) i) ≡ base
   element_read base array length i h below = go (variable_type program procedure array) refl h
     where
       go : (found : Option VariableType) → variable_type program procedure array ≡ found
-          → array_by found length (same_base base) ≡ true → base_of (cell_at (cells s array) i) ≡ base
+          → array_by found length (same_base base) ≡ true → kind_of (cell_at (cells s array) i) ≡ base
       go None e h = cc
       go (Some type) e h =
           let parts : (has_length type.size length ≡ true) × (same_base base type.base ≡ true) = and_parts (has_length type.size length) _ h in

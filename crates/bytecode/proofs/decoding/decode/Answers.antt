@@ -2,14 +2,15 @@ use Rattle.std.proofs.Common.{Err, arith, sym, ◌∙◌, ◌≡◌}
 use Rattle.modules.specs.ByteFormat.{read_all}
 use Rattle.modules.specs.Format.{module_file}
 use Rattle.modules.specs.ContentsOf.{contents_of}
-use Rattle.bytecode.proofs.Both.{module_again, module_taken}
+use Rattle.bytecode.proofs.Both.{module_again, module_fits, module_taken}
 use Rattle.bytecode.proofs.Inside.{stop_inside}
 use Rattle.bytecode.proofs.Steps.{same_value}
 use Rattle.bytecode.proofs.decoding.decode.Goals as goal
 
 pub new-requires : goal.new-requires
 new-requires c =
-    (module_taken c.args.bytes.now (contents_of c.in-Ok.contents) (record { below = λ i. omega (arith, c.type_inv.bytes i) }) c.in-Ok.ensures).0
+    module_fits (contents_of c.in-Ok.contents) c.args.bytes.now
+    (module_taken c.args.bytes.now (contents_of c.in-Ok.contents) (record { below = λ i. omega (arith, c.type_inv.bytes i) }) c.in-Ok.ensures)
 
 pub returns-in-Ok-clause-accepted : goal.returns-in-Ok-clause-accepted
 returns-in-Ok-clause-accepted c =

@@ -1,6 +1,7 @@
 use Rattle.std.proofs.Common.{arith}
 use Rattle.std.proofs.lemmas.Result.{err_from_is_err_and, IfErr-at_err}
 use Rattle.std.proofs.lemmas.Str.{is_utf8-from_IsUtf8}
+use Rattle.acceptance.proofs.Texts.{no_text_fault, text_no_fault}
 use Rattle.acceptance.specs.Refused.{NoText, TooLong}
 use Rattle.acceptance.specs.declared.kind.RefusalKind.TheVariants as kinds
 use Rattle.common.proofs.Casting.{cast-answer}
@@ -13,14 +14,15 @@ use Rattle.checker.specs.Found.{IsFoundRefusal}
 use Rattle.checker.proofs.analysing.analyse.Goals as goal
 
 pub returns-then-source-gt-MAX_TEXT-clause-first_fault : goal.returns-then-source-gt-MAX_TEXT-clause-first_fault
-returns-then-source-gt-MAX_TEXT-clause-first_fault c = NoText kinds.TextTooLong 0 (TooLong (omega (arith, c.if-source-gt-MAX_TEXT.true)))
+returns-then-source-gt-MAX_TEXT-clause-first_fault c =
+    NoText kinds.TextTooLong (no_text_fault c.args.source.now kinds.TextTooLong 0 (TooLong (omega (arith, c.if-source-gt-MAX_TEXT.true)))).0
 
 pub resolve_source-requires : goal.resolve_source-requires
 resolve_source-requires c = record {
-  text = record {
+  text = text_no_fault c.args.source.now (record {
     short = omega (arith, c.if-source-gt-MAX_TEXT.false);
     characters = is_utf8-from_IsUtf8 c.args.source.now c.utf8.source;
-  };
+  });
 }
 
 pub returns-in_err-ends-clause-first_fault : goal.returns-in_err-ends-clause-first_fault

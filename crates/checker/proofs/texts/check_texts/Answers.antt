@@ -2,6 +2,9 @@ use Rattle.std.proofs.Common.{subst}
 use Rattle.std.proofs.lemmas.Result.{err_from_is_err_and}
 use Rattle.common.proofs.Casting.{refused-weaker}
 use Rattle.common.specs.Answers.{IfRefused}
+use Rattle.acceptance.specs.Accepted.{IsAccepted}
+use Rattle.acceptance.proofs.Phases.{accepted_stand}
+use Rattle.resolved.specs.CoreOf.{program_of}
 use Rattle.acceptance.specs.declared.kind.Text.TheVariants as texts
 use Rattle.checker.specs.Read.{IsUnread}
 use Rattle.checker.specs.Reported.{HasFlow, IsFirstFault, IsSourceFault, StandForNone}
@@ -69,3 +72,8 @@ returns-in_err-checked-clause-rejected c =
     (λ r fault. stand_for_none c.one_verdict.ensures.one hierarchy source r
     (in_source hierarchy source h c.in_ok-principals.ensures.has r fault)) c.in_err-checked.field-0.0
     (subst (λ s. IfRefused (IsSourceFault h s) c.in_err-checked.field-0.0) c.in_ok-text.ensures.same c.in_err-checked.ensures.first_fault))
+
+pub returns-clause-accepted : goal.returns-clause-accepted
+returns-clause-accepted c =
+    accepted_stand c.args.hierarchy.now c.args.source.now c.in_ok-principals.principals (program_of c.in_ok-checked.checked.core) c.in_ok-principals.ensures.has
+    (subst (λ s. IsAccepted c.in_ok-principals.principals s (program_of c.in_ok-checked.checked.core)) c.in_ok-text.ensures.same c.in_ok-checked.ensures.accepted)

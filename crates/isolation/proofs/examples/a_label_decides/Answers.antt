@@ -4,21 +4,22 @@ use Rattle.labels.specs.Sent.{IsPrefix}
 use Rattle.resolved.specs.Meaning.{frame_limit}
 use Rattle.resolved.specs.Labelled.{channel_label}
 use Rattle.resolved.specs.Isolated.{Agree}
-use Rattle.isolation.specs.Examples.{relay, comes, sends, bob, two_principals}
+use Rattle.resolved.proofs.Demands.{labelled-fits, labelled-from}
+use Rattle.isolation.specs.Examples.{for_alice, relay, comes, sends, bob, two_principals}
 use Rattle.isolation.proofs.examples.a_label_decides.Goals as goal
 
 pub returns-clause-faultless : goal.returns-clause-faultless
 returns-clause-faultless c = refl
 
 pub returns-clause-labelled : goal.returns-clause-labelled
-returns-clause-labelled c = (λ unwritten. [], refl)
+returns-clause-labelled c = labelled-from (relay for_alice) (λ unwritten. []) refl
 
 pub returns-clause-sent : goal.returns-clause-sent
 unfolding frame_limit
 returns-clause-sent c = refl
 
 pub returns-clause-refused : goal.returns-clause-refused
-returns-clause-refused c labelled = let e : false ≡ true = labelled.1 in cc
+returns-clause-refused c labelled = let e : false ≡ true = labelled-fits (relay []) labelled in cc
 
 -- Bob may not read the one input
 same_for_bob : (first second : ℤ) → Agree two_principals (channel_label (relay [])) (relay []) bob (comes first) (comes second)

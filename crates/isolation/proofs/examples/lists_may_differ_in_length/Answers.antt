@@ -3,7 +3,7 @@ use Rattle.std.specs.Int.{int_wrap}
 use Rattle.common.specs.declared.sent.Pair.{Pair}
 use Rattle.labels.specs.Sent.{pairs_for}
 use Rattle.resolved.specs.declared.expression.Variable.TheVariants.{Local}
-use Rattle.resolved.specs.declared.expression.Operator.TheVariants.{Compare}
+use Rattle.common.specs.declared.operator.Operator.TheVariants.{Compare}
 use Rattle.common.specs.declared.operator.Comparison.TheVariants.{Ordered}
 use Rattle.common.specs.declared.operator.Order.TheVariants.{GreaterThan}
 use Rattle.resolved.specs.Tree.{Integer, Read, Binary, Assign, Receive, Send, Try, Empty, Then, NoMore, Catch}
@@ -12,6 +12,7 @@ use Rattle.common.specs.declared.exceptions.TheConstants.{END}
 use Rattle.resolved.specs.SourceState.{SourceState, value_of}
 use Rattle.resolved.specs.Meaning.{Outcome, after, leaving, entering, block_meaning, calls_with, first_state, state_after, frame_limit}
 use Rattle.resolved.specs.Labelled.{channel_label}
+use Rattle.resolved.proofs.Demands.{labelled-from}
 use Rattle.isolation.specs.Examples.{for_alice, two_principals, bob, comes, waiting}
 use Rattle.isolation.proofs.Waiting.{waits-for_ever}
 use Rattle.isolation.proofs.examples.lists_may_differ_in_length.Goals as goal
@@ -20,7 +21,7 @@ pub returns-clause-faultless : goal.returns-clause-faultless
 returns-clause-faultless c = refl
 
 pub returns-clause-labelled : goal.returns-clause-labelled
-returns-clause-labelled c = (λ unwritten. for_alice, refl)
+returns-clause-labelled c = labelled-from waiting (λ unwritten. for_alice) refl
 
 pub returns-clause-agree : goal.returns-clause-agree
 returns-clause-agree c zero within is_input reads = let e : false ≡ true = reads in absurd (cc)

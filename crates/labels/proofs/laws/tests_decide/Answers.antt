@@ -1,4 +1,5 @@
 use Rattle.labels.proofs.Tests.{policy_allows-decides, may_read-decides, policy_flows-decides, covers-decides, flows-decides}
+use Rattle.labels.proofs.Seen.{pairs_for-decides}
 use Rattle.labels.proofs.laws.tests_decide.Goals as goal
 
 pub returns-clause-allows : goal.returns-clause-allows
@@ -15,3 +16,6 @@ returns-clause-flow c = flows-decides
 
 pub returns-clause-covers : goal.returns-clause-covers
 returns-clause-covers c = covers-decides
+
+pub returns-clause-sees : goal.returns-clause-sees
+returns-clause-sees c = pairs_for-decides

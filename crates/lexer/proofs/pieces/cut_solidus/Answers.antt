@@ -1,9 +1,9 @@
+use Rattle.lexer.specs.Patterns.{Word}
 use Rattle.std.proofs.Common.{◌≡◌, ◌∷◌, ℕ, List, Option, [], length, refl, sym, ap, subst, ◌∙◌}
 use Rattle.std.specs.Str.{chars}
 use Rattle.std.specs.Str.Iter.{chars_rest, chars_steps}
 use Rattle.lexer.specs.Cut.{IsNextLexeme}
 use Rattle.lexer.specs.KindOf.{kind_of}
-use Rattle.lexer.specs.Lexeme.{Word}
 use Rattle.lexer.specs.declared.token.Kind.TheVariants.{Slash}
 use Rattle.lexer.proofs.Nexts.{next_solidus, IsNotFirst}
 use Rattle.lexer.proofs.Reading.{moved, line_read, block_read, open_read}

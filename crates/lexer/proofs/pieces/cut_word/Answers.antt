@@ -1,6 +1,6 @@
+use Rattle.lexer.specs.Patterns.{Word}
 use Rattle.std.proofs.Common.{refl, sym, ap, ◌∙◌, unwrap_or}
 use Rattle.std.specs.Str.{chars}
-use Rattle.lexer.specs.Lexeme.{Word}
 use Rattle.lexer.specs.KindOf.{kind_of}
 use Rattle.lexer.specs.KindRows.{keyword_rows}
 use Rattle.unicode_ident.specs.Ident.{is_xid_continue}

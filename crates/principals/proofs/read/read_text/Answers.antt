@@ -1,12 +1,12 @@
 use Rattle.std.proofs.Common.{refl, sym, subst}
-use Rattle.std.specs.Prelude.{Ok}
-use Rattle.std.proofs.lemmas.Result.{err_from_is_err_and, IfErr-at_err, IfErr-weaker}
+use Rattle.std.specs.Prelude.{Ok, Err}
+use Rattle.std.proofs.lemmas.Result.{err_from_is_err_and, IfErr-at_err, IfErr-weaker, IfOk-weaker}
 use Rattle.common.specs.Answers.{IfRefused}
 use Rattle.common.proofs.Casting.{cast-answer, mapped-ok, refused-weaker}
 use Rattle.lexer.specs.Cut.{IsCut, IsTextRefused}
 use Rattle.lexer.specs.Terminal.{terminals_of}
-use Rattle.principals.specs.HierarchyText.{IsRefusedText, Long, Wrong, HasEntries}
-use Rattle.principals.specs.Reading.{entries_of, IsFormRefusal, IsFirstRefusal, IsHierarchyForm}
+use Rattle.principals.specs.HierarchyText.{IsHierarchyOf, IsRefusedText, Long, Formed}
+use Rattle.principals.specs.Reading.{entries_of, IsFormRefusal, IsFirstRefusal, IsHierarchyForm, IsBuilt}
 use Rattle.principals.proofs.Called.{declared_kept}
 use Rattle.principals.proofs.Uniqueness.{form_refused, tokens_refused}
 use Rattle.principals.proofs.read.read_text.Goals as goal
@@ -39,15 +39,22 @@ returns-clause-first_fault c =
     let entries = entries_of c.as_slice-2.result.now in
     let tokens = mapped-ok c.lex.result (Ok c.in_ok-tokens.tokens) c.in_ok-tokens.tokens (λ found. IsCut text (terminals_of found.items)) refl
     c.in_ok-tokens.ensures.cases (λ fault no. no) c.lex.ensures.accepted in
-    let has_entries : HasEntries text entries = record {
-      fits = c.if-text-gt-MAX_TEXT.false;
-      tokens = terminals_of c.in_ok-tokens.tokens.items;
-      cut = tokens;
-      form = subst (λ x. IsHierarchyForm (terminals_of x) entries) c.as_slice.ensures.value
-          (subst (λ x. IsHierarchyForm (terminals_of c.as_slice.result.now) (entries_of x)) (sym c.as_slice-2.ensures.value) c.in_ok-statements.ensures.form);
-    } in
+    let form = subst (λ x. IsHierarchyForm (terminals_of x) entries) c.as_slice.ensures.value
+    (subst (λ x. IsHierarchyForm (terminals_of c.as_slice.result.now) (entries_of x)) (sym c.as_slice-2.ensures.value) c.in_ok-statements.ensures.form) in
     IfErr-weaker c.hierarchy_of.result (IfRefused (IsFirstRefusal entries)) (IfRefused (IsRefusedText text))
-    (λ f h. refused-weaker (IsFirstRefusal entries) (IsRefusedText text) (λ r refused. Wrong entries r has_entries refused) f h) c.hierarchy_of.ensures.first_fault
+    (λ f h. refused-weaker (IsFirstRefusal entries) (IsRefusedText text)
+    (λ r refused. Formed (terminals_of c.in_ok-tokens.tokens.items) entries (Err r) c.if-text-gt-MAX_TEXT.false tokens form refused) f h) c.hierarchy_of.ensures.first_fault
+
+pub returns-clause-accepted : goal.returns-clause-accepted
+returns-clause-accepted c =
+    let text = c.args.text.now in
+    let entries = entries_of c.as_slice-2.result.now in
+    let tokens = mapped-ok c.lex.result (Ok c.in_ok-tokens.tokens) c.in_ok-tokens.tokens (λ found. IsCut text (terminals_of found.items)) refl
+    c.in_ok-tokens.ensures.cases (λ fault no. no) c.lex.ensures.accepted in
+    let form = subst (λ x. IsHierarchyForm (terminals_of x) entries) c.as_slice.ensures.value
+    (subst (λ x. IsHierarchyForm (terminals_of c.as_slice.result.now) (entries_of x)) (sym c.as_slice-2.ensures.value) c.in_ok-statements.ensures.form) in
+    IfOk-weaker c.hierarchy_of.result (IsBuilt entries) (IsHierarchyOf text)
+    (λ hierarchy built. Formed (terminals_of c.in_ok-tokens.tokens.items) entries (Ok hierarchy) c.if-text-gt-MAX_TEXT.false tokens form built) c.hierarchy_of.ensures.described
 
 pub hierarchy_of-requires : goal.hierarchy_of-requires
 hierarchy_of-requires c =

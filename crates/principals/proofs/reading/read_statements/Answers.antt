@@ -7,7 +7,7 @@ use Rattle.lexer.specs.Terminal.{terminal_of, terminals_of}
 use Rattle.principals.specs.HierarchyText.{Entry}
 use Rattle.principals.specs.Reading.{ReadingState, Fresh, Ended, next, run, finished_entries, state_of, entry_of, entries_of}
 use Rattle.principals.specs.declared.reading.HierarchyStatement.{HierarchyStatement}
-use Rattle.principals.proofs.Automaton.{run-push, read_is_open, is_prefix, stops, run_ends}
+use Rattle.principals.proofs.Automaton.{run-push, read_is_form, is_prefix, stops, run_ends}
 use Rattle.principals.proofs.reading.read_statements.Goals as goal
 use Rattle.principals.proofs.reading.read_statements.Goals.{In-Some, in-Some-finish+in_ok-push, in_default-finish}
 
@@ -68,7 +68,7 @@ returns-clause-form c =
     let whole : run Fresh (terminals_of tokens) ≡ Some (state_of c.loop-token.progress, entries_of c.loop-token.statements.items) =
     ap (λ x. run Fresh (terminals_of x)) (sym (take_all c.loop-token.token-index tokens all)) ∙ c.loop-token.invariant in
     let ended : state_of c.loop-token.progress ≡ Ended = run_ends (terminals_of tokens) Fresh (state_of c.loop-token.progress) (entries_of c.loop-token.statements.items) c.requires whole in
-    read_is_open (terminals_of tokens) Fresh (entries_of c.loop-token.statements.items) (whole ∙ ap (λ x. Some (x, entries_of c.loop-token.statements.items)) ended)
+    read_is_form (terminals_of tokens) (entries_of c.loop-token.statements.items) (whole ∙ ap (λ x. Some (x, entries_of c.loop-token.statements.items)) ended)
 
 pub returns-in_default-clause-rejected : goal.returns-in_default-clause-rejected
 returns-in_default-clause-rejected c =

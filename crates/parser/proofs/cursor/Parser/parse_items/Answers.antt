@@ -2,7 +2,7 @@ use Rattle.std.proofs.Common.{map, ◌≡◌, ◌∷◌, [], ◌++◌, sym, ◌�
 use Rattle.std.proofs.lemmas.Result.{err_from_is_err_and}
 use Rattle.std.proofs.lemmas.List.{map_push}
 use Rattle.lexer.specs.Terminal.{terminals_of}
-use Rattle.syntax.specs.Grammar.{item}
+use Rattle.parser.specs.ReadGrammar.{item}
 use Rattle.syntax.specs.Tree.{item_tree}
 use Rattle.parser.proofs.Items.{begins_an_item, item_takes}
 use Rattle.parser.proofs.Loops.{starts, one_more, is_over, fails_on, falls}

@@ -1,7 +1,7 @@
 use Rattle.std.proofs.Common.{length, map}
 use Rattle.lexer.specs.Terminal.{terminals_of}
-use Rattle.syntax.specs.Form.{many}
-use Rattle.syntax.specs.Grammar.{item}
+use Rattle.parser.specs.ReadForm.{many}
+use Rattle.parser.specs.ReadGrammar.{item}
 use Rattle.syntax.specs.Tree.{item_tree}
 use Rattle.parser.specs.Reading.{read}
 use Rattle.parser.proofs.Loops.{ReadsOn}

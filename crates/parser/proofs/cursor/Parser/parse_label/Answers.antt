@@ -1,5 +1,5 @@
 use Rattle.std.proofs.Common.{rules}
-use Rattle.syntax.specs.Grammar.{label}
+use Rattle.parser.specs.ReadGrammar.{label}
 use Rattle.parser.specs.Reading.{read}
 use Rattle.parser.proofs.cursor.Parser.parse_label.Goals as goal
 

@@ -1,5 +1,5 @@
 use Rattle.std.proofs.Common.{rules}
-use Rattle.syntax.specs.Grammar.{parameter}
+use Rattle.parser.specs.ReadGrammar.{parameter}
 use Rattle.parser.specs.Reading.{read}
 use Rattle.parser.proofs.cursor.Parser.parse_parameter.Goals as goal
 

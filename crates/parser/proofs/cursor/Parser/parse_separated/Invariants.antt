@@ -1,7 +1,7 @@
 use Rattle.std.proofs.Common.{ℕ, length, map}
 use Rattle.lexer.specs.KindOf.{text_of}
 use Rattle.lexer.specs.Terminal.{terminals_of}
-use Rattle.syntax.specs.Grammar.{separated, ◌▸◌}
+use Rattle.parser.specs.ReadGrammar.{separated, ◌▸◌}
 use Rattle.parser.specs.Reading.{read}
 use Rattle.parser.proofs.Loops.{ReadsOn}
 use Rattle.parser.proofs.cursor.Parser.parse_separated.Given as goal

@@ -1,5 +1,5 @@
 use Rattle.std.proofs.Common.{rules}
-use Rattle.syntax.specs.Grammar.{size}
+use Rattle.parser.specs.ReadGrammar.{size}
 use Rattle.parser.specs.Reading.{read}
 use Rattle.parser.proofs.cursor.Parser.parse_size.Goals as goal
 

@@ -2,7 +2,7 @@ use Rattle.std.proofs.Common.{map, ◌≡◌, ◌∷◌, [], ◌++◌, sym, ◌�
 use Rattle.std.proofs.lemmas.Result.{err_from_is_err_and}
 use Rattle.std.proofs.lemmas.List.{map_push}
 use Rattle.syntax.specs.Tree.{expression_tree}
-use Rattle.syntax.specs.Grammar.{expression}
+use Rattle.parser.specs.ReadGrammar.{expression}
 use Rattle.parser.proofs.Loops.{starts_after, fails_after, parted_more, parted_over, parted_fails, parted_falls}
 use Rattle.parser.proofs.cursor.Parser.parse_some_expressions.Goals as goal
 

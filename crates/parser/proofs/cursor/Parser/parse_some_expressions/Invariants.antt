@@ -1,7 +1,7 @@
 use Rattle.std.proofs.Common.{length, map}
 use Rattle.lexer.specs.Terminal.{terminals_of}
 use Rattle.syntax.specs.Tree.{expression_tree}
-use Rattle.syntax.specs.Grammar.{expression, separated, ◌▸◌}
+use Rattle.parser.specs.ReadGrammar.{expression, separated, ◌▸◌}
 use Rattle.parser.specs.Reading.{read}
 use Rattle.parser.proofs.Loops.{ReadsOn}
 use Rattle.parser.proofs.cursor.Parser.parse_some_expressions.Given as goal

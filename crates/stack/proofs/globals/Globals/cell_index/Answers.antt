@@ -1,5 +1,5 @@
 use Rattle.std.proofs.Common.{ℕ, List, length, map, sym, ap, ◌∙◌}
-use Rattle.modules.specs.declared.value.Cell.{Cell}
+use Rattle.common.specs.declared.value.Value.{Value as Cell}
 use Rattle.stack.specs.Slab.{cell_index_in}
 use Rattle.stack.proofs.Cuts.{lengths-cut}
 use Rattle.stack.proofs.globals.Globals.cell_index.Goals as goal

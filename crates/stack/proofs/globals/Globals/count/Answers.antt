@@ -1,5 +1,5 @@
 use Rattle.std.proofs.Common.{List, length, map, sym, ap, ◌∙◌}
-use Rattle.modules.specs.declared.value.Cell.{Cell}
+use Rattle.common.specs.declared.value.Value.{Value as Cell}
 use Rattle.stack.specs.Slab.{total}
 use Rattle.stack.proofs.Cuts.{lengths-cut}
 use Rattle.stack.proofs.globals.Globals.count.Goals as goal

@@ -1,5 +1,5 @@
 use Rattle.std.proofs.Common.{◌<◌, List, length, ap, ◌∙◌, arith}
-use Rattle.modules.specs.declared.value.Cell.{Cell}
+use Rattle.common.specs.declared.value.Value.{Value as Cell}
 use Rattle.stack.specs.Slab.{with_cell_at}
 use Rattle.stack.proofs.CellsByIndex.{with_cell_at-cut}
 use Rattle.stack.proofs.OfGlobals.{among_cells}

@@ -1,23 +1,25 @@
-ghost use Rattle.modules.specs.Values.{kind_of, zero_of};
+//! Values.
+
+ghost use Rattle.common.specs.Values.{kind_of, zero_of};
 ghost use Rattle.std.specs.Prelude.{◌≡◌};
 
-use common::BaseType;
+use crate::base_type::BaseType;
 
-/// A value of a slot, a global or an operand: an int of 32 bits or a boolean.
+/// A value of a variable, a slot or an operand: an int of 32 bits or a boolean.
 #[derive(Clone, Copy, Debug, PartialEq, Eq)]
-pub enum Cell {
+pub enum Value {
     Int(i32),
     Bool(bool),
 }
 
-impl Cell {
+impl Value {
     /// The value that a scalar of this kind, and each element of an array, starts with: 0 or `false`.
-    pub fn zero_of(kind: BaseType) -> Cell
+    pub fn zero_of(kind: BaseType) -> Value
         ensures { result ≡ zero_of kind }
     {
         match kind {
-            BaseType::Int => Cell::Int(0),
-            BaseType::Boolean => Cell::Bool(false),
+            BaseType::Int => Value::Int(0),
+            BaseType::Boolean => Value::Bool(false),
         }
     }
 
@@ -26,8 +28,8 @@ impl Cell {
         ensures { result ≡ kind_of self }
     {
         match self {
-            Cell::Int(_) => BaseType::Int,
-            Cell::Bool(_) => BaseType::Boolean,
+            Value::Int(_) => BaseType::Int,
+            Value::Bool(_) => BaseType::Boolean,
         }
     }
 }
