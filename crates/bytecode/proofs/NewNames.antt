@@ -13,7 +13,7 @@ use Rattle.std.proofs.lemmas.Map.Text.{btree_set_updates_text}
 use Rattle.lexer.specs.Words.{is_name_text}
 use Rattle.common.specs.declared.fault.OrNoMemory.{OrNoMemory}
 use Rattle.common.specs.declared.fault.OrNoMemory.TheVariants.{NoMemory, Refused}
-use Rattle.modules.specs.Contents.{ChannelContents}
+use Rattle.labels.specs.Channel.{ChannelContents}
 use Rattle.modules.specs.ByteFormat.{ByteFormat, Named, Then, Counted, Checked, Text, Read, read, each_at, number_at}
 use Rattle.modules.specs.declared.fault.ReadRefusal.{ReadRefusal}
 use Rattle.bytecode.proofs.Loop.{ReadingFails, each_fails, each_goes_on}

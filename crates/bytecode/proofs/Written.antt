@@ -19,7 +19,8 @@ use Rattle.modules.specs.declared.declaration.Slot.TheVariants as slot
 use Rattle.modules.specs.declared.declaration.Global.{Global}
 use Rattle.modules.specs.declared.declaration.Global.TheVariants as global
 use Rattle.modules.specs.declared.declaration.Handler.{Handler}
-use Rattle.modules.specs.Contents.{ChannelContents, ProcedureContents, ModuleContents}
+use Rattle.labels.specs.Channel.{ChannelContents}
+use Rattle.modules.specs.Contents.{ProcedureContents, ModuleContents}
 use Rattle.modules.specs.ByteFormat.{ByteFormat, Fits, FitEach, spelled, spelled_each}
 use Rattle.modules.specs.Opcodes.{code_bytes}
 use Rattle.modules.specs.Format.{version, version_number, is_among, name_after, number_below, hierarchy, direction, policy, label, channel_after, declared, slot_beside, slot_fields, global_after, slots, variable_kind, returned, handler, procedure, main, module_file}

@@ -12,7 +12,8 @@ use Rattle.common.specs.declared.base_type.BaseType.TheVariants as kind
 use Rattle.common.specs.declared.direction.Direction.{Direction}
 use Rattle.common.specs.declared.direction.Direction.TheVariants.{Input, Output}
 use Rattle.modules.specs.declared.declaration.Handler.{Handler}
-use Rattle.modules.specs.Contents.{ChannelContents, ProcedureContents, ModuleContents}
+use Rattle.labels.specs.Channel.{ChannelContents}
+use Rattle.modules.specs.Contents.{ProcedureContents, ModuleContents}
 use Rattle.modules.specs.Opcodes.{code_bytes}
 use Rattle.modules.specs.Format.{slot_fields, version_number}
 use Rattle.modules.specs.FormatParts.{magic}

@@ -10,7 +10,8 @@ use Rattle.common.specs.declared.sent.Pair.{Pair}
 use Rattle.labels.specs.Sent.{IsPrefix}
 use Rattle.labels.proofs.Prefixes.{prefix-through}
 use Rattle.channels.specs.Sink.{AppendsPrefix}
-use Rattle.modules.specs.Contents.{ChannelContents, ModuleContents}
+use Rattle.labels.specs.Channel.{ChannelContents}
+use Rattle.modules.specs.Contents.{ModuleContents}
 use Rattle.modules.specs.Isolated.{channel_label_under}
 use Rattle.modules.specs.MachineParts.{label_in}
 use Rattle.principals.specs.ActsFor.{PrincipalHierarchy}

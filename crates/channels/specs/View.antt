@@ -7,7 +7,8 @@ use Rattle.principals.specs.ActsFor.{PrincipalHierarchy}
 use Rattle.labels.specs.Carried.{carried_label, label_under, numbered}
 use Rattle.labels.specs.Label.{Label, may_read}
 use Rattle.common.specs.declared.sent.Pair.{Pair}
-use Rattle.modules.specs.Contents.{ModuleContents, ChannelContents}
+use Rattle.labels.specs.Channel.{ChannelContents}
+use Rattle.modules.specs.Contents.{ModuleContents}
 use Rattle.modules.specs.Isolated.{channel_label, channel_label_under, module_view}
 use Rattle.channels.specs.Sink.{AppendsPrefix}
 

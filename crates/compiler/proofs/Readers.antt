@@ -1,34 +1,28 @@
 -- Who may read what in a module is who may do so in its program.
-use Rattle.std.proofs.Common.{◌≡◌, ℕ, zero, suc, ◌<◌, List, [], ◌∷◌, length, map, filter, slice_get, slice_index_or, Option, Some, refl, sym, ap, subst, ◌∙◌, arith}
+use Rattle.std.proofs.Common.{◌≡◌, ℕ, zero, suc, List, [], ◌∷◌, filter, slice_get, slice_index_or, refl, sym, ap, subst, ◌∙◌}
 use Rattle.std.specs.Prelude.{Contains, option_and_then, unwrap_or}
 use Rattle.principals.specs.ActsFor.{PrincipalHierarchy, ContainsHierarchy, number_of}
 use Rattle.common.specs.declared.sent.Pair.{Pair}
 use Rattle.labels.specs.Carried.{carried_label, label_under}
-use Rattle.labels.specs.Label.{may_read}
+use Rattle.labels.specs.Isolated.{WorldsAgree}
+use Rattle.labels.specs.Label.{MayRead, may_read}
 use Rattle.labels.specs.Sent.{pairs_for}
-use Rattle.labels.proofs.Tests.{may_read-decides}
 use Rattle.common.specs.declared.direction.Direction.TheVariants as channel
-use Rattle.resolved.specs.Isolated.{Agree}
 use Rattle.resolved.specs.Labelled.{channel_label}
-use Rattle.resolved.specs.Program.{Program, ChannelEntry, channel_at}
+use Rattle.labels.specs.Channel.{ChannelContents}
+use Rattle.resolved.specs.Program.{Program}
 use Rattle.resolved.specs.SourceState.{World}
-use Rattle.modules.specs.Contents.{ChannelContents, ModuleContents}
+use Rattle.modules.specs.Contents.{ModuleContents}
 use Rattle.modules.specs.Isolated.{channel_label as module_label, channel_label_under, module_view, AgreeOnInputs}
 use Rattle.modules.specs.MachineParts.{label_in}
-use Rattle.lowering.specs.Interface.{HasInterfaceOf, channel_contents}
+use Rattle.lowering.specs.Interface.{HasInterfaceOf}
 
 -- what stands in a module's table of channels is what stands in the program's
-label_at : (channels : List ChannelEntry) (n : ℕ) →
-    label_in (slice_get (map channel_contents channels) n) ≡ (slice_index_or channels n (record { direction = channel.Output; name = []; label = [] })).label
+label_at : (channels : List ChannelContents) (n : ℕ) →
+    label_in (slice_get channels n) ≡ (slice_index_or channels n (record { direction = channel.Output; name = []; label = [] })).label
 label_at [] n = refl
 label_at (entry ∷ channels) zero = refl
 label_at (entry ∷ channels) (suc n) = label_at channels n
-
-channel_there : (channels : List ChannelEntry) (n : ℕ) (none : ChannelEntry) → n < length channels →
-    slice_get (map channel_contents channels) n ≡ Some (channel_contents (slice_index_or channels n none))
-channel_there [] n none below = absurd (omega (arith, below))
-channel_there (entry ∷ channels) zero none below = refl
-channel_there (entry ∷ channels) (suc n) none below = channel_there channels n none (omega (arith, below))
 
 module _ (program : Program) (m : ModuleContents) (same : HasInterfaceOf program m) where
   pub label-module : (n : ℕ) → module_label m n ≡ channel_label program n
@@ -56,11 +50,7 @@ module _ (program : Program) (m : ModuleContents) (same : HasInterfaceOf program
 
   -- worlds that agree for a principal on the module's inputs do so on the program's
   pub agree-module : (h : PrincipalHierarchy) (p : ℕ) (first second : World) → AgreeOnInputs h m p first second
-      → Agree h (λ n. label_under program.hierarchy h (channel_label program n)) program p first second
-  agree-module h p first second agree n there input reads =
-      agree n (channel_contents (channel_at program n)) (channel-there n there) input
-      ((may_read-decides h p (label_under m.hierarchy h (channel_contents (channel_at program n)).label)).0
-      (ap (λ label. may_read h p label) (sym (ap (λ (channel : Option ChannelContents). label_under m.hierarchy h (label_in channel)) (channel-there n there)) ∙ label_under-module h n) ∙ reads))
-    where
-      channel-there : (k : ℕ) → k < length program.channels → slice_get m.channels k ≡ Some (channel_contents (channel_at program k))
-      channel-there k below = ap (λ (all : List ChannelContents). slice_get all k) same.channels ∙ channel_there program.channels k (record { direction = channel.Output; name = []; label = [] }) below
+      → WorldsAgree h (λ n. label_under program.hierarchy h (channel_label program n)) program.channels p first second
+  agree-module h p first second agree n channel there input reads =
+      agree n channel (ap (λ (all : List ChannelContents). slice_get all n) same.channels ∙ there) input
+      (subst (MayRead h p) (sym (label_under-module h n)) reads)

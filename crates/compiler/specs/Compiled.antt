@@ -6,8 +6,7 @@ use Rattle.resolved.specs.Program.{Program}
 use Rattle.modules.specs.Contents.{ModuleContents}
 use Rattle.modules.specs.ByteFormat.{Spells}
 use Rattle.modules.specs.Format.{module_file}
-use Rattle.principals.specs.ActsFor.{PrincipalHierarchy, IsHierarchy, ContainsHierarchy}
-use Rattle.modules.specs.Isolated.{IsIsolated}
+use Rattle.modules.specs.Isolated.{StaysIsolated}
 use Rattle.modules.specs.Machine.{after_steps}
 use Rattle.verifier.specs.Safety.{IsNeverStuck}
 use Rattle.lowering.specs.Interface.{HasInterfaceOf}
@@ -25,7 +24,7 @@ pub record IsCodeOf (program : Program) (code : List ℕ) : Type 0 where
   pub never_stuck : IsNeverStuck contents
   pub interface : HasInterfaceOf program contents
   pub kept : SameMeaning program (after_steps contents)
-  pub isolated : (h : PrincipalHierarchy) → IsHierarchy h → ContainsHierarchy h contents.hierarchy → IsIsolated h contents
+  pub isolated : StaysIsolated contents
 
 -- bytes are what a hierarchy text and a source are compiled to: they are code of the program that the two stand for
 pub record IsCompiled (hierarchy source code : List ℕ) : Type 0 where

@@ -17,7 +17,7 @@ use Rattle.resolved.specs.declared.statement.Exit.TheVariants.{Normal}
 use Rattle.resolved.specs.declared.target.Target.TheVariants.{ToLoop}
 use Rattle.resolved.specs.Program.{Program}
 use Rattle.resolved.specs.Labelled.{Scope, label_of, value_label}
-use Rattle.resolved.specs.Tree.{Expression, Statement, If, While, Try, Block, Handlers}
+use Rattle.resolved.specs.Tree.{Expression, Statement, Placed, If, While, Try, Block, Handlers}
 use Rattle.resolved.specs.TreeOf.{handlers_of, statement_of}
 use Rattle.resolved.specs.Exits.{block_exits, handles, one_exit, raises, statement_exits}
 use Rattle.path_map.specs.Exits.{Exits, exits_of}
@@ -84,7 +84,7 @@ module _ (core : Core) (table : List Label) (entries : List Exits) (procedure : 
       → IsWalked core table entries pc exit_unknowns [] (λ named. branch_constraints (scope_of core procedure) named (exit_unknowns_of exit_unknowns old.thrown.items) old.number e) 1 old begun
       → IsBlockWalked core table entries procedure inner exit_unknowns then_block begun middle
       → IsBlockWalked core table entries procedure inner exit_unknowns else_block middle new
-      → IsFormWalked core table entries procedure pc exit_unknowns (If at e then_block else_block) old new
+      → IsFormWalked core table entries procedure pc exit_unknowns (Placed at (If e then_block else_block)) old new
   if-walked at e then_block else_block pc inner exit_unknowns number old begun middle new number_is stands head chosen other = λ left before levelled.
       let program : Program = program_of core in
       let scope : Scope = scope_of core procedure in
@@ -103,7 +103,7 @@ module _ (core : Core) (table : List Label) (entries : List Exits) (procedure : 
       let three : HasPassed core table entries pc (λ named. second) (made_by_block else_block) left middle new =
       block-at pc inner (inner_atom n) exit_unknowns t else_block left middle new old.thrown.items (suc n + made_by_block then_block) part (two.thrown_is ∙ one.thrown_is)
       (omega (arith, one.number_is, two.number_is)) levelled refl two.entries_left other in
-      passed-same core table entries pc (λ named. statement_constraints scope named t n (If at e then_block else_block)) (λ named. branch named ++ (first ++ second))
+      passed-same core table entries pc (λ named. statement_constraints scope named t n (Placed at (If e then_block else_block))) (λ named. branch named ++ (first ++ second))
       (suc (made_by_block then_block + made_by_block else_block)) (1 + (made_by_block then_block + made_by_block else_block)) left old new
       (λ named. sym (append_assoc (inner_constraint (named ∷ named_atoms (value_label scope e)) n)
       (raised_flows (named ∷ named_atoms (raise_atoms scope e)) t (raises e)) (first ++ second))) (omega arith)
@@ -117,7 +117,7 @@ module _ (core : Core) (table : List Label) (entries : List Exits) (procedure : 
       → IsWalked core table entries pc exit_unknowns [] (λ named. loop_head_constraints (scope_of core procedure) named (exit_unknowns_of exit_unknowns old.thrown.items) old.number at loop e) 2 old begun
       → IsBlockWalked core table entries procedure inside inner body begun middle
       → ((other : Atom) (any : ExitUnknowns) → IsWalked core table entries other any [] (λ named. rule_constraint (scope_of core procedure) at 8 (inner_atom back ∷ []) (ToLoop procedure loop)) 0 middle new)
-      → IsFormWalked core table entries procedure pc exit_unknowns (While at loop e body) old new
+      → IsFormWalked core table entries procedure pc exit_unknowns (Placed at (While loop e body)) old new
   while-walked at loop e body pc inside exit_unknowns inner number back old begun middle new number_is back_is stands exit_unknowns_are levels_are head walked loop_atom = λ left before levelled.
       let program : Program = program_of core in
       let scope : Scope = scope_of core procedure in
@@ -138,7 +138,7 @@ module _ (core : Core) (table : List Label) (entries : List Exits) (procedure : 
       let three : HasPassed core table entries pc (λ named. turning (suc n)) 0 left middle new =
       passed-same core table entries pc (λ named. turning (suc n)) (λ named. turning back) 0 0 left middle new (λ named. ap turning (sym back_number)) refl
       (loop_atom pc exit_unknowns left two.entries_left (levels-same exit_unknowns old.thrown.items middle.thrown.items (two.thrown_is ∙ one.thrown_is) levelled)) in
-      passed-same core table entries pc (λ named. statement_constraints scope named t n (While at loop e body)) (λ named. opening named ++ (inside_it ++ turning (suc n)))
+      passed-same core table entries pc (λ named. statement_constraints scope named t n (Placed at (While loop e body))) (λ named. opening named ++ (inside_it ++ turning (suc n)))
       (suc (suc (made_by_block body))) (2 + (made_by_block body + 0)) left old new
       (λ named. sym (append-four (rule_constraint scope at 8 (named ∷ []) (ToLoop procedure loop))
       (inner_constraint (turn_atom ∷ named_atoms (value_label scope e)) n) (flow (inner_atom n ∷ []) (t Normal))
@@ -157,7 +157,7 @@ module _ (core : Core) (table : List Label) (entries : List Exits) (procedure : 
       → length after.journal.moments.items ≡ length middle.journal.moments.items → noting ≡ after.thrown.items
       → ((number : ℕ → ℕ) (other : Atom) → tried.numbers.items ≡ map (λ (handler : Handler). number handler.exception) handlers
       → AreHandlersWalked core table entries procedure other exit_unknowns number (handlers_of handlers) after new)
-      → IsFormWalked core table entries procedure pc exit_unknowns (Try at block (handlers_of handlers)) old new
+      → IsFormWalked core table entries procedure pc exit_unknowns (Placed at (Try block (handlers_of handlers))) old new
   try-walked at block list pc exit_unknowns tried noting old begun middle after new begins walked index_is number_is constraints_are thrown_is calls moments counted noted_are handled = λ left before levelled.
       let program : Program = program_of core in
       let scope : Scope = scope_of core procedure in
@@ -193,7 +193,7 @@ module _ (core : Core) (table : List Label) (entries : List Exits) (procedure : 
       walked-on core table entries pc exit_unknowns (handlers_paths program handlers) (λ thrown k named. handlers_constraints scope number (exit_unknowns_of exit_unknowns thrown) k handlers)
       (made_by_handlers handlers) left after new old.thrown.items ((n + count) + made_by_block block) one.thrown_is (omega (arith, one.number_is)) levelled one.entries_left
       (handled number pc (begins.numbers_are levelled)) in
-      passed-same core table entries pc (λ named. statement_constraints scope named t n (Try at block handlers)) (λ named. trying named ++ handling)
+      passed-same core table entries pc (λ named. statement_constraints scope named t n (Placed at (Try block handlers))) (λ named. trying named ++ handling)
       (count + (made_by_block block + made_by_handlers handlers)) ((count + made_by_block block) + made_by_handlers handlers) left old new
       (λ named. refl) (omega arith)
       (passed-then core table entries pc trying (λ named. handling) (count + made_by_block block) (made_by_handlers handlers) rest left old after new one two)

@@ -16,7 +16,7 @@ use Rattle.resolved.specs.declared.statement.Statement as S
 use Rattle.resolved.specs.declared.tables.Thrown.{Thrown}
 use Rattle.resolved.specs.Program.{ProcedureEntry, Program, ThrownEntry}
 use Rattle.resolved.specs.ProgramOf.{thrown_entry}
-use Rattle.resolved.specs.Tree.{Expression, Statement, If, While, Try, Nested, Block, Then, Handlers, Catch}
+use Rattle.resolved.specs.Tree.{Expression, Statement, Placed, If, While, Try, Nested, Block, Then, Handlers, Catch}
 use Rattle.resolved.specs.TreeOf.{block_of, handlers_of, statement_of}
 use Rattle.common.specs.declared.base_type.BaseType.TheVariants.{Boolean}
 use Rattle.resolved.specs.Exits.{block_exits, one_exit, statement_exits}
@@ -188,23 +188,23 @@ module _ (core : Core) (table : List Label) (entries : List Exits) (procedure : 
 
   -- the blocks of a branch
   pub if-goes : (at : ℕ) (e : Expression) (then_block else_block : Block) (pc : Atom) (exit_unknowns : ExitUnknowns) (gathered : NamedAtom → List NamedConstraint) (old begun : Progress)
-      → IsFormReady core entries procedure exit_unknowns (If at e then_block else_block) old
+      → IsFormReady core entries procedure exit_unknowns (Placed at (If e then_block else_block)) old
       → IsWalked core table entries pc exit_unknowns [] gathered 1 old begun
       → IsReady core entries exit_unknowns (block_paths (program_of core) then_block ++ block_paths (program_of core) else_block) true
       (made_by_block then_block + made_by_block else_block) 0 begun
   if-goes at e then_block else_block pc exit_unknowns gathered old begun ready walked =
       ready-then core entries table pc exit_unknowns exit_unknowns exit_unknowns [] (block_paths (program_of core) then_block ++ block_paths (program_of core) else_block)
-      gathered 1 (fits-statement (If at e then_block else_block)) true (made_by_statement (If at e then_block else_block)) (made_by_block then_block + made_by_block else_block) 1 0
+      gathered 1 (fits-statement (Placed at (If e then_block else_block))) true (made_by_statement (Placed at (If e then_block else_block))) (made_by_block then_block + made_by_block else_block) 1 0
       old begun ready walked ready.levelled ready.levelled refl (omega arith) (omega arith)
 
-  pub if-fits : (at : ℕ) (e : Expression) (then_block else_block : Block) → IsTrue (fits-statement (If at e then_block else_block))
+  pub if-fits : (at : ℕ) (e : Expression) (then_block else_block : Block) → IsTrue (fits-statement (Placed at (If e then_block else_block)))
       → IsTrue (fits-block then_block) × IsTrue (fits-block else_block)
   if-fits at e then_block else_block fit =
       let parts = and-three (has_base (program_of core) (here (scope_of core procedure)) Boolean e) (fits-block then_block) (fits-block else_block) fit in
       (parts.1, parts.2)
 
   pub if-first : (at : ℕ) (e : Expression) (then_block else_block : Block) (pc : Atom) (exit_unknowns : ExitUnknowns) (gathered : NamedAtom → List NamedConstraint) (old begun : Progress)
-      → IsFormReady core entries procedure exit_unknowns (If at e then_block else_block) old
+      → IsFormReady core entries procedure exit_unknowns (Placed at (If e then_block else_block)) old
       → IsWalked core table entries pc exit_unknowns [] gathered 1 old begun
       → IsBlockReady core entries procedure exit_unknowns then_block begun
   if-first at e then_block else_block pc exit_unknowns gathered old begun ready walked =
@@ -213,7 +213,7 @@ module _ (core : Core) (table : List Label) (entries : List Exits) (procedure : 
       (if-goes at e then_block else_block pc exit_unknowns gathered old begun ready walked) (if-fits at e then_block else_block ready.fitting).0 (omega arith)
 
   pub if-second : (at : ℕ) (e : Expression) (then_block else_block : Block) (pc inner : Atom) (exit_unknowns : ExitUnknowns) (gathered : NamedAtom → List NamedConstraint) (old begun middle : Progress)
-      → IsFormReady core entries procedure exit_unknowns (If at e then_block else_block) old
+      → IsFormReady core entries procedure exit_unknowns (Placed at (If e then_block else_block)) old
       → IsWalked core table entries pc exit_unknowns [] gathered 1 old begun
       → IsBlockWalked core table entries procedure inner exit_unknowns then_block begun middle
       → IsBlockReady core entries procedure exit_unknowns else_block middle
@@ -228,31 +228,31 @@ module _ (core : Core) (table : List Label) (entries : List Exits) (procedure : 
 
   -- the body of a loop
   pub while-goes : (at loop : ℕ) (e : Expression) (body : Block) (pc : Atom) (exit_unknowns inner : ExitUnknowns) (gathered : NamedAtom → List NamedConstraint) (old begun : Progress)
-      → IsFormReady core entries procedure exit_unknowns (While at loop e body) old
+      → IsFormReady core entries procedure exit_unknowns (Placed at (While loop e body)) old
       → IsWalked core table entries pc exit_unknowns [] gathered 2 old begun
       → ((thrown : List ExitUnknown) → AreLevelled exit_unknowns thrown → AreLevelled inner thrown) → inner.level ≡ exit_unknowns.level
       → IsBlockReady core entries procedure inner body begun
   while-goes at loop e body pc exit_unknowns inner gathered old begun ready walked levels_are level_is =
       ready-then core entries table pc exit_unknowns exit_unknowns inner [] (block_paths (program_of core) body) gathered 2
-      (fits-statement (While at loop e body)) (fits-block body) (made_by_statement (While at loop e body)) (made_by_block body) 1 0 old begun ready walked ready.levelled (levels_are old.thrown.items ready.levelled)
+      (fits-statement (Placed at (While loop e body))) (fits-block body) (made_by_statement (Placed at (While loop e body))) (made_by_block body) 1 0 old begun ready walked ready.levelled (levels_are old.thrown.items ready.levelled)
       (and_parts (has_base (program_of core) (here (scope_of core procedure)) Boolean e) (fits-block body) ready.fitting).1 (omega arith) (omega (arith, level_is))
 
   -- the block and the handlers of a `try`
-  pub try-fits : (at : ℕ) (block : Block) (handlers : Handlers) → IsTrue (fits-statement (Try at block handlers)) → IsTrue (fits-block block) × IsTrue (fits-handlers handlers)
+  pub try-fits : (at : ℕ) (block : Block) (handlers : Handlers) → IsTrue (fits-statement (Placed at (Try block handlers))) → IsTrue (fits-block block) × IsTrue (fits-handlers handlers)
   try-fits at block handlers fit = and_parts (fits-block block) (fits-handlers handlers) fit
 
   pub try-inside : (at : ℕ) (block : Block) (handlers : List Handler) (exit_unknowns : ExitUnknowns) (old : Progress)
-      → IsFormReady core entries procedure exit_unknowns (Try at block (handlers_of handlers)) old → AreHandledInside handlers old.thrown.items
+      → IsFormReady core entries procedure exit_unknowns (Placed at (Try block (handlers_of handlers))) old → AreHandledInside handlers old.thrown.items
   try-inside at block handlers exit_unknowns old ready =
       handled-inside (program_of core) (length old.thrown.items) ready.wide (here (scope_of core procedure)) handlers (try-fits at block (handlers_of handlers) ready.fitting).1
 
   -- there are numbers for its handlers, and a level
   pub try-room : (at : ℕ) (block : Block) (handlers : List Handler) (exit_unknowns : ExitUnknowns) (old : Progress)
-      → IsFormReady core entries procedure exit_unknowns (Try at block (handlers_of handlers)) old → MayMakeUnknowns (length handlers) old × (exit_unknowns.level < old.number)
+      → IsFormReady core entries procedure exit_unknowns (Placed at (Try block (handlers_of handlers))) old → MayMakeUnknowns (length handlers) old × (exit_unknowns.level < old.number)
   try-room at block handlers exit_unknowns old ready = (omega (arith, ready.room, count-of handlers), omega (arith, ready.deep))
 
   pub try-first : (at : ℕ) (block : Block) (handlers : List Handler) (exit_unknowns : ExitUnknowns) (tried : Tried) (old begun : Progress)
-      → IsFormReady core entries procedure exit_unknowns (Try at block (handlers_of handlers)) old → IsTried exit_unknowns handlers old begun tried
+      → IsFormReady core entries procedure exit_unknowns (Placed at (Try block (handlers_of handlers))) old → IsTried exit_unknowns handlers old begun tried
       → IsBlockReady core entries procedure tried.exit_unknowns block begun
   try-first at block handlers exit_unknowns tried old begun ready begins =
       let program : Program = program_of core in
@@ -269,7 +269,7 @@ module _ (core : Core) (table : List Label) (entries : List Exits) (procedure : 
       }
 
   pub try-second : (at : ℕ) (block : Block) (handlers : List Handler) (pc : Atom) (exit_unknowns : ExitUnknowns) (tried : Tried) (old begun middle after : Progress)
-      → IsFormReady core entries procedure exit_unknowns (Try at block (handlers_of handlers)) old → IsTried exit_unknowns handlers old begun tried
+      → IsFormReady core entries procedure exit_unknowns (Placed at (Try block (handlers_of handlers))) old → IsTried exit_unknowns handlers old begun tried
       → IsBlockWalked core table entries procedure pc tried.exit_unknowns block begun middle
       → after.index ≡ middle.index → after.number ≡ middle.number → after.thrown.items ≡ undone tried.saved.items middle.thrown.items
       → AreHandlersReady core entries procedure exit_unknowns (handlers_of handlers) after
@@ -282,15 +282,15 @@ module _ (core : Core) (table : List Label) (entries : List Exits) (procedure : 
       (made_by_block block) beyond begun middle =
       walked beyond (ap (λ i. drop i entries) begins.index_is ∙ paths-then (block_paths program block) paths (drop old.index entries) ready.left ready.goes_on)
       (begins.taken ready.levelled).levels_are in
-      ready-moved core entries exit_unknowns exit_unknowns (block_paths program block) paths (fits-statement (Try at block (handlers_of handlers))) (fits-handlers (handlers_of handlers))
-      (made_by_statement (Try at block (handlers_of handlers))) (made_by_handlers (handlers_of handlers)) 1 0 old after ready
+      ready-moved core entries exit_unknowns exit_unknowns (block_paths program block) paths (fits-statement (Placed at (Try block (handlers_of handlers)))) (fits-handlers (handlers_of handlers))
+      (made_by_statement (Placed at (Try block (handlers_of handlers)))) (made_by_handlers (handlers_of handlers)) 1 0 old after ready
       (λ before. ap (λ i. drop i entries) index ∙ passed.entries_left)
       (thrown ∙ (ap (undone tried.saved.items) passed.thrown_is ∙ begins.saved_is)) ready.levelled (try-fits at block (handlers_of handlers) ready.fitting).1
       (omega (arith, ready.room, begins.number_is, passed.number_is, number)) (omega (arith, ready.deep, begins.number_is, passed.number_is, number))
 
   -- a block in a block
   pub nested-goes : (at : ℕ) (block : Block) (exit_unknowns : ExitUnknowns) (now : Progress)
-      → IsFormReady core entries procedure exit_unknowns (Nested at block) now → IsBlockReady core entries procedure exit_unknowns block now
+      → IsFormReady core entries procedure exit_unknowns (Placed at (Nested block)) now → IsBlockReady core entries procedure exit_unknowns block now
   nested-goes at block exit_unknowns now ready = record {
     left = ready.left;
     goes_on = ready.goes_on;

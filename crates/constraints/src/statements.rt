@@ -7,7 +7,7 @@ ghost use Rattle.gathering.specs.Names.{NamedAtom};
 ghost use Rattle.gathering.specs.Walk.{flow, raised_flows, target_constraint};
 ghost use Rattle.path_map.specs.Exceptions.{AreRaised};
 ghost use Rattle.resolved.specs.Exits.{raises};
-ghost use Rattle.resolved.specs.Tree.{Clear, Leave, Receive, ReturnWith};
+ghost use Rattle.resolved.specs.Tree.{Placed, Clear, Leave, Receive, ReturnWith};
 ghost use Rattle.resolved.specs.TreeOf.{expression_of, some_expression_of};
 ghost use Rattle.solver.specs.Rule.{rule_number};
 ghost use Rattle.std.specs.Prelude.{List, OnOk, ℕ, ◌++◌};
@@ -94,7 +94,7 @@ impl<'a> ProcedureWalk<'a> {
         around: &Around,
         constraints: &mut Vec<Constraint<Option<Target>>>,
     ) -> Result<(), AllocError>
-        ensures { OnOk result (IsSimpleBy self.now around.now (Leave at exit)
+        ensures { OnOk result (IsSimpleBy self.now around.now (Placed at (Leave exit))
             constraints.old.items constraints.new.items) }
     {
         let exit_unknown = around.exit_unknown(exit);
@@ -113,7 +113,7 @@ impl<'a> ProcedureWalk<'a> {
         constraints: &mut Vec<Constraint<Option<Target>>>,
     ) -> Result<(), AllocError>
         ensures { OnOk result (IsSimpleBy self.now around.now
-            (ReturnWith at (some_expression_of value.now))
+            (Placed at (ReturnWith (some_expression_of value.now)))
             constraints.old.items constraints.new.items) }
     {
         match value {
@@ -144,7 +144,7 @@ impl<'a> ProcedureWalk<'a> {
         around: &Around,
         constraints: &mut Vec<Constraint<Option<Target>>>,
     ) -> Result<(), AllocError>
-        ensures { OnOk result (IsSimpleBy self.now around.now (Clear at slot)
+        ensures { OnOk result (IsSimpleBy self.now around.now (Placed at (Clear slot))
             constraints.old.items constraints.new.items) }
     {
         let target = Target::ToVariable(self.procedure, Variable::Local(slot));
@@ -196,7 +196,7 @@ impl<'a> ProcedureWalk<'a> {
         around: &Around,
         constraints: &mut Vec<Constraint<Option<Target>>>,
     ) -> Result<(), AllocError>
-        ensures { OnOk result (IsSimpleBy self.now around.now (Receive at channel target)
+        ensures { OnOk result (IsSimpleBy self.now around.now (Placed at (Receive channel target))
             constraints.old.items constraints.new.items) }
     {
         let source = Target::ToChannel(channel);

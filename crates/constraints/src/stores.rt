@@ -6,7 +6,7 @@ ghost use Rattle.gathering.specs.Walk.{store_atoms};
 ghost use Rattle.path_map.specs.Exceptions.{AreRaised};
 ghost use Rattle.resolved.specs.Exits.{index_raises, raises};
 ghost use Rattle.resolved.specs.Labelled.{value_label};
-ghost use Rattle.resolved.specs.Tree.{Store};
+ghost use Rattle.resolved.specs.Tree.{Placed, Store};
 ghost use Rattle.resolved.specs.TreeOf.{expression_of};
 ghost use Rattle.std.specs.Prelude.{IfOk, OnOk, ◌++◌};
 
@@ -80,8 +80,8 @@ impl<'a> ProcedureWalk<'a> {
         around: &Around,
         constraints: &mut Vec<Constraint<Option<Target>>>,
     ) -> Result<(), AllocError>
-        ensures { OnOk result (IsSimpleBy self.now around.now (Store store.at store.array
-            store.length (expression_of index.now) (expression_of value.now))
+        ensures { OnOk result (IsSimpleBy self.now around.now (Placed store.at (Store store.array
+            store.length (expression_of index.now) (expression_of value.now)))
             constraints.old.items constraints.new.items) }
     {
         let target = Target::ToVariable(self.procedure, store.array);

@@ -1,7 +1,7 @@
 //! The walk along blocks, statements and handlers that adds what is gathered of them.
 ghost use Rattle.constraints.specs.ByWalk.{entries_in, IsBlockReadyBy, AreStatementsReadyBy, IsStatementReadyBy, IsFormReadyBy, AreHandlersReadyBy, IsBlockWalkedBy, AreStatementsWalkedBy, IsStatementWalkedBy, IsFormWalkedBy, AreHandlersWalkedBy};
 ghost use Rattle.path_map.specs.Exits.{Exits};
-ghost use Rattle.resolved.specs.Tree.{If, Try, While};
+ghost use Rattle.resolved.specs.Tree.{Placed, If, Try, While};
 ghost use Rattle.resolved.specs.TreeOf.{block_of, expression_of, handlers_of, statement_of};
 ghost use Rattle.resolved.specs.declared.statement.Handler.{Handler};
 ghost use Rattle.std.specs.Prelude.{IfOk, List, OnOk, drop, length, map, ℕ, ◌∷◌, ◌≡◌};
@@ -185,12 +185,12 @@ fn walk_if(
     progress: &mut Progress,
 ) -> Result<(), AllocError>
     requires { IsFormReadyBy walk.now context.exit_unknowns.now
-        (If 0 (expression_of condition.now) (block_of then_block.now) (block_of else_block.now))
-        progress.old }
+        (Placed 0 (If (expression_of condition.now) (block_of then_block.now)
+        (block_of else_block.now))) progress.old }
     ensures { OnOk result ((at : ℕ) →
         IsFormWalkedBy walk.now context.entry
-        (If at (expression_of condition.now) (block_of then_block.now) (block_of else_block.now))
-        progress.old progress.new) }
+        (Placed at (If (expression_of condition.now) (block_of then_block.now)
+        (block_of else_block.now))) progress.old progress.new) }
 {
     let number = walk.begin_branch(condition, context, progress)?;
     let pc = Atom::Unknown(number);
@@ -212,9 +212,10 @@ fn walk_while(
     progress: &mut Progress,
 ) -> Result<(), AllocError>
     requires { IsFormReadyBy walk.now context.exit_unknowns.now
-        (While site.at site.number (expression_of condition.now) (block_of body.now)) progress.old }
+        (Placed site.at (While site.number (expression_of condition.now) (block_of body.now)))
+        progress.old }
     ensures { OnOk result (IsFormWalkedBy walk.now context.entry
-        (While site.at site.number (expression_of condition.now) (block_of body.now))
+        (Placed site.at (While site.number (expression_of condition.now) (block_of body.now)))
         progress.old progress.new) }
 {
     let (inner, back) = walk.begin_loop(site, condition, context, progress)?;
@@ -239,10 +240,10 @@ fn walk_try(
     progress: &mut Progress,
 ) -> Result<(), AllocError>
     requires { IsFormReadyBy walk.now context.exit_unknowns.now
-        (Try 0 (block_of block.now) (handlers_of handlers.now)) progress.old }
+        (Placed 0 (Try (block_of block.now) (handlers_of handlers.now))) progress.old }
     ensures { OnOk result ((at : ℕ) →
         IsFormWalkedBy walk.now context.entry
-        (Try at (block_of block.now) (handlers_of handlers.now))
+        (Placed at (Try (block_of block.now) (handlers_of handlers.now)))
         progress.old progress.new) }
 {
     let tried = walk.begin_try(handlers, *context.exit_unknowns, progress)?;

@@ -29,7 +29,7 @@ use Rattle.modules.specs.ByteFormat.{Fits, Spells}
 use Rattle.bytecode.proofs.Both.{module_fits}
 use Rattle.modules.specs.Format.{module_file}
 use Rattle.modules.specs.Isolated.{AgreeOnInputs, IsIsolated, StaysIsolated, channel_label, module_view}
-use Rattle.modules.proofs.Isolated.{isolated-views}
+use Rattle.modules.proofs.Isolated.{isolated-by_views}
 use Rattle.modules.proofs.Own.{module-hierarchy, own-isolation, own-view}
 use Rattle.modules.specs.Machine.{Machine, Ending, after_steps, machine_code, sent_after, sent_of}
 use Rattle.channels.specs.World.{InputNumbers, input_names, numbers_of_channel}
@@ -256,7 +256,7 @@ texts_prefix m h differ isolated_module name first second agree (Some p) (Some q
     let same : p ≡ q = one_number h.names differ p q name is also in
     subst (λ (n : ℕ). OneIsPrefix (text_shown h m first (Some p) i) (text_shown h m second (Some n) j)) same
     (views-prefix m (module_view h m p (sent_after m (numbers_in m first) i)) (module_view h m p (sent_after m (numbers_in m second) j))
-    (isolated-views h m isolated_module p (numbers_in m first) (numbers_in m second) (agree p is) i j))
+    ((isolated-by_views h m).0 isolated_module p (numbers_in m first) (numbers_in m second) (agree p is) i j))
 
 -- two runs of one module under one hierarchy
 module _ (once : HasOneHierarchy) (m : ModuleContents) (fits : Fits module_file m) (stays : StaysIsolated m) (under : Option (List ℕ)) (name first second : List ℕ)

@@ -9,7 +9,7 @@ use Rattle.resolved.specs.declared.expression.Variable.{Variable}
 use Rattle.resolved.specs.declared.statement.Exit.{Exit}
 use Rattle.resolved.specs.declared.statement.Exit.TheVariants.{Normal, Return, Throw}
 use Rattle.resolved.specs.declared.target.Target.TheVariants.{ToBegin, ToChannel, ToEnd, ToLoop, ToValue}
-use Rattle.resolved.specs.Tree.{Expression, Integer, Logical, Read, Element, Unary, Binary, Short, Statement, Assign, Clear, Store, Receive, Send, Call, If, While, Leave, ReturnWith, Try, Nested, Block, Empty, Then, Handlers, NoMore, Catch}
+use Rattle.resolved.specs.Tree.{Expression, Integer, Logical, Read, Element, Unary, Binary, Short, Statement, Placed, Assign, Clear, Store, Receive, Send, Call, If, While, Leave, ReturnWith, Try, Nested, Block, Empty, Then, Handlers, NoMore, Catch}
 use Rattle.resolved.specs.Program.{Program, ProcedureEntry, ThrownEntry}
 use Rattle.common.specs.declared.exceptions.TheConstants.{END}
 use Rattle.resolved.specs.Exits.{has_exit, one_exit, index_raises, raises, statement_exits, block_exits}
@@ -92,15 +92,15 @@ module _ (scope : Scope) where
   -- statements, with the unknowns that they make and one more in their block
   mutual
     begins-statement : (s : Statement) (p : NamedAtom) (exit_unknowns : ExitUnknowns) (n : ℕ) → 2 * begins (statement_constraints scope p exit_unknowns n s) + 3 * (made_by_statement s + 1) + 3 * length (statement_loops s) ≤ 8 * statement_nodes s
-    begins-statement (Assign at x e) p exit_unknowns n =
+    begins-statement (Placed at (Assign x e)) p exit_unknowns n =
         let i = begins-own (p ∷ named_atoms (raise_atoms scope e)) exit_unknowns Normal (raises e) in
         omega (arith, i)
-    begins-statement (Clear at slot) p exit_unknowns n =
+    begins-statement (Placed at (Clear slot)) p exit_unknowns n =
         let i : begins (flow (p ∷ []) (exit_unknowns Normal)) ≡ 0 = begins-flow (p ∷ []) (exit_unknowns Normal) in omega (arith, i)
-    begins-statement (Store at array len index e) p exit_unknowns n =
+    begins-statement (Placed at (Store array len index e)) p exit_unknowns n =
         let i = begins-own (p ∷ named_atoms (store_atoms scope len index e)) exit_unknowns Normal (raises index ++ raises e ++ index_raises index len) in
         omega (arith, i)
-    begins-statement (Receive at channel target) p exit_unknowns n =
+    begins-statement (Placed at (Receive channel target)) p exit_unknowns n =
         let q : List NamedAtom = p ∷ named_atoms (one (label_of scope.program (ToChannel channel))) in
         let third : List NamedConstraint = flow q (exit_unknowns Normal) in
         let fourth : List NamedConstraint = flow q (exit_unknowns (Throw END)) in
@@ -111,10 +111,10 @@ module _ (scope : Scope) where
         let s : begins (second ++ (third ++ fourth)) ≡ begins second + begins (third ++ fourth) = begins-append second (third ++ fourth) in
         let t : begins (third ++ fourth) ≡ begins third + begins fourth = begins-append third fourth in
         omega (arith, i, j, k, s, t)
-    begins-statement (Send at channel e) p exit_unknowns n =
+    begins-statement (Placed at (Send channel e)) p exit_unknowns n =
         let i = begins-own (p ∷ named_atoms (raise_atoms scope e)) exit_unknowns Normal (raises e) in
         omega (arith, i)
-    begins-statement (Call at callee arguments target) p exit_unknowns n =
+    begins-statement (Placed at (Call callee arguments target)) p exit_unknowns n =
         let given : List NamedAtom = inner_atom n ∷ named_atoms (call_atoms scope.program callee Normal ++ one (label_of scope.program (ToValue callee))) in
         let second : List NamedConstraint = argument_constraints scope at n callee 0 arguments in
         let third : List NamedConstraint = target_constraint scope at 6 given target in
@@ -125,7 +125,7 @@ module _ (scope : Scope) where
         let s : begins (second ++ (third ++ fourth)) ≡ begins second + begins (third ++ fourth) = begins-append second (third ++ fourth) in
         let t : begins (third ++ fourth) ≡ begins third + begins fourth = begins-append third fourth in
         omega (arith, c, d, h, s, t)
-    begins-statement (If at e then_block else_block) p exit_unknowns n =
+    begins-statement (Placed at (If e then_block else_block)) p exit_unknowns n =
         let pc : NamedAtom = inner_atom n in
         let second : List NamedConstraint = raised_flows (p ∷ named_atoms (raise_atoms scope e)) exit_unknowns (raises e) in
         let third : List NamedConstraint = by_exits (block_exits scope.program then_block) pc exit_unknowns (λ t. block_constraints scope true pc t (suc n) then_block) in
@@ -141,7 +141,7 @@ module _ (scope : Scope) where
         let t : begins (third ++ fourth) ≡ begins third + begins fourth = begins-append third fourth in
         let w : length (block_loops then_block ++ block_loops else_block) ≡ length (block_loops then_block) + length (block_loops else_block) = length-append (block_loops then_block) (block_loops else_block) in
         omega (arith, i, j, k, s, t, w)
-    begins-statement (While at loop e body) p exit_unknowns n =
+    begins-statement (Placed at (While loop e body)) p exit_unknowns n =
         let pc : NamedAtom = inner_atom n in
         let loop_atom : NamedAtom = renamed Real (label_of scope.program (ToLoop scope.number loop)) in
         let out : List NamedConstraint = flow (pc ∷ []) (exit_unknowns Normal) in
@@ -158,12 +158,12 @@ module _ (scope : Scope) where
         let u : begins (third ++ fourth) ≡ begins third + 0 = begins-append third fourth in
         let x : 1 ≤ expression_nodes e = some-nodes e in
         omega (arith, h, i, j, s, t, u, x)
-    begins-statement (Leave at exit) p exit_unknowns n = let i : begins (flow (p ∷ []) (exit_unknowns exit)) ≡ 0 = begins-flow (p ∷ []) (exit_unknowns exit) in omega (arith, i)
-    begins-statement (ReturnWith at (Some e)) p exit_unknowns n =
+    begins-statement (Placed at (Leave exit)) p exit_unknowns n = let i : begins (flow (p ∷ []) (exit_unknowns exit)) ≡ 0 = begins-flow (p ∷ []) (exit_unknowns exit) in omega (arith, i)
+    begins-statement (Placed at (ReturnWith (Some e))) p exit_unknowns n =
         let i = begins-own (p ∷ named_atoms (raise_atoms scope e)) exit_unknowns Return (raises e) in
         omega (arith, i)
-    begins-statement (ReturnWith at None) p exit_unknowns n = let i : begins (flow (p ∷ []) (exit_unknowns Return)) ≡ 0 = begins-flow (p ∷ []) (exit_unknowns Return) in omega (arith, i)
-    begins-statement (Try at block handlers) p exit_unknowns n =
+    begins-statement (Placed at (ReturnWith None)) p exit_unknowns n = let i : begins (flow (p ∷ []) (exit_unknowns Return)) ≡ 0 = begins-flow (p ∷ []) (exit_unknowns Return) in omega (arith, i)
+    begins-statement (Placed at (Try block handlers)) p exit_unknowns n =
         let number : ℕ → ℕ = λ x. handler_number handlers n x in
         let inside : ExitUnknowns = in_try number handlers exit_unknowns in
         let first : List NamedConstraint = by_exits (block_exits scope.program block) p inside (λ t. block_constraints scope true p t (n + handler_count handlers) block) in
@@ -175,8 +175,8 @@ module _ (scope : Scope) where
         let s : begins (first ++ second) ≡ begins first + begins second = begins-append first second in
         let w : length (block_loops block ++ handlers_loops handlers) ≡ length (block_loops block) + length (handlers_loops handlers) = length-append (block_loops block) (handlers_loops handlers) in
         omega (arith, i, j, s, w)
-    begins-statement (Nested at block) p exit_unknowns n =
-        let i : 2 * begins (statement_constraints scope p exit_unknowns n (Nested at block)) + (3 * made_by_block block + 3 * length (block_loops block)) ≤ 8 * block_nodes block =
+    begins-statement (Placed at (Nested block)) p exit_unknowns n =
+        let i : 2 * begins (statement_constraints scope p exit_unknowns n (Placed at (Nested block))) + (3 * made_by_block block + 3 * length (block_loops block)) ≤ 8 * block_nodes block =
         within (block_exits scope.program block) p exit_unknowns (λ t. block_constraints scope true p t n block) (3 * made_by_block block + 3 * length (block_loops block)) (8 * block_nodes block) (λ t. begins-block block true p t n) in
         omega (arith, i)
 

@@ -11,7 +11,7 @@ use Rattle.resolved.specs.declared.statement.Exit.{Exit}
 use Rattle.resolved.specs.declared.statement.Exit.TheVariants.{Normal, Return, Break, Continue, Throw}
 use Rattle.resolved.specs.declared.target.Target.{Target}
 use Rattle.resolved.specs.declared.target.Target.TheVariants.{ToVariable, ToChannel, ToBegin, ToParameter, ToValue, ToLoop}
-use Rattle.resolved.specs.Tree.{Expression, Statement, Assign, Clear, Store, Receive, Send, Call, If, While, Leave, ReturnWith, Try, Nested, Block, Empty, Then, Handlers, NoMore, Catch}
+use Rattle.resolved.specs.Tree.{Expression, Statement, Placed, Assign, Clear, Store, Receive, Send, Call, If, While, Leave, ReturnWith, Try, Nested, Block, Empty, Then, Handlers, NoMore, Catch}
 use Rattle.resolved.specs.Program.{Program, procedure_at}
 use Rattle.common.specs.declared.exceptions.TheConstants.{END}
 use Rattle.resolved.specs.Exits.{same_exit, has_exit, one_exit, index_raises, raises, thrown_exits, declared_by, leaves_loop, handles, passes, statement_exits, block_exits, handlers_exits, list_if}
@@ -235,7 +235,7 @@ module _ (m : ℕ → Join) where
 
     pub closed-call : (at callee : ℕ) (arguments : List Expression) (target : Option Variable) (p : NamedAtom) (pc : Join) (exit_unknowns : ExitUnknowns) (n : ℕ) →
         m n ≡ (pc ++ flat_map (raise_label scope) arguments) → Below (p ∷ []) pc →
-        Take (statement_exits scope.program (Call at callee arguments target)) exit_unknowns (call_exit_labels scope.program callee (pc ++ flat_map (raise_label scope) arguments)) →
+        Take (statement_exits scope.program (Placed at (Call callee arguments target))) exit_unknowns (call_exit_labels scope.program callee (pc ++ flat_map (raise_label scope) arguments)) →
         Closed (call_constraints scope p exit_unknowns n at callee arguments target)
     closed-call at callee arguments target p pc exit_unknowns n is below take =
         let j : Join = pc ++ flat_map (raise_label scope) arguments in
@@ -264,18 +264,18 @@ module _ (m : ℕ → Join) where
     mutual
       pub closed-statement : (s : Statement) (p : NamedAtom) (pc : Join) (exit_unknowns : ExitUnknowns) (n : ℕ) → Part scope.program s → Agrees scope m n pc s → Below (p ∷ []) pc →
           Take (statement_exits scope.program s) exit_unknowns (statement_rule scope pc s) → Closed (statement_constraints scope p exit_unknowns n s)
-      closed-statement (Assign at x e) p pc exit_unknowns n part agrees below take =
+      closed-statement (Placed at (Assign x e)) p pc exit_unknowns n part agrees below take =
           closed-demanding at 1 (p ∷ named_atoms (value_label scope e)) (ToVariable scope.number x) (p ∷ named_atoms (raise_atoms scope e)) (pc ++ raise_label scope e)
           exit_unknowns Normal (raises e) (raises-two e) (pc-below p pc (raise_atoms scope e) (pc ++ raise_label scope e) below (alike-raise scope pc e).0) take
-      closed-statement (Clear at slot) p pc exit_unknowns n part agrees below take =
+      closed-statement (Placed at (Clear slot)) p pc exit_unknowns n part agrees below take =
           closed-append (rule_constraint scope at 2 (p ∷ []) (ToVariable scope.number (Local slot))) (flow (p ∷ []) (exit_unknowns Normal))
           (closed-rule_constraint scope at 2 (p ∷ []) (ToVariable scope.number (Local slot)))
           (closed-flow (p ∷ []) (exit_unknowns Normal) (λ k is. below-sub (p ∷ []) pc (m k) below (take Normal k refl is)))
-      closed-statement (Store at array len index e) p pc exit_unknowns n part agrees below take =
+      closed-statement (Placed at (Store array len index e)) p pc exit_unknowns n part agrees below take =
           let j : Join = store_label scope pc len index e in
           closed-demanding at 3 (p ∷ named_atoms (value_label scope index ++ value_label scope e)) (ToVariable scope.number array) (p ∷ named_atoms (store_atoms scope len index e)) j
           exit_unknowns Normal (raises index ++ raises e ++ index_raises index len) (store-two index e len) (pc-below p pc (store_atoms scope len index e) j below (alike-store scope pc len index e).0) take
-      closed-statement (Receive at channel target) p pc exit_unknowns n part agrees below take =
+      closed-statement (Placed at (Receive channel target)) p pc exit_unknowns n part agrees below take =
           let label : Join = one (label_of scope.program (ToChannel channel)) in
           let q : List NamedAtom = p ∷ named_atoms label in
           let q_below : Below q (pc ++ label) = below-append (p ∷ []) (named_atoms label) pc label below (below-named label) in
@@ -286,11 +286,11 @@ module _ (m : ℕ → Join) where
           (closed-append (flow q (exit_unknowns Normal)) (flow q (exit_unknowns (Throw END)))
           (closed-flow q (exit_unknowns Normal) (λ k is. below-sub q (pc ++ label) (m k) q_below (take Normal k refl is)))
           (closed-flow q (exit_unknowns (Throw END)) (λ k is. below-sub q (pc ++ label) (m k) q_below (take (Throw END) k refl is)))))
-      closed-statement (Send at channel e) p pc exit_unknowns n part agrees below take =
+      closed-statement (Placed at (Send channel e)) p pc exit_unknowns n part agrees below take =
           closed-demanding at 5 (p ∷ named_atoms (value_label scope e)) (ToChannel channel) (p ∷ named_atoms (raise_atoms scope e)) (pc ++ raise_label scope e)
           exit_unknowns Normal (raises e) (raises-two e) (pc-below p pc (raise_atoms scope e) (pc ++ raise_label scope e) below (alike-raise scope pc e).0) take
-      closed-statement (Call at procedure arguments target) p pc exit_unknowns n part agrees below take = closed-call at procedure arguments target p pc exit_unknowns n agrees below take
-      closed-statement (If at e then_block else_block) p pc exit_unknowns n part agrees below take =
+      closed-statement (Placed at (Call procedure arguments target)) p pc exit_unknowns n part agrees below take = closed-call at procedure arguments target p pc exit_unknowns n agrees below take
+      closed-statement (Placed at (If e then_block else_block)) p pc exit_unknowns n part agrees below take =
           let r : Join = raise_label scope e in
           let v : Join = value_label scope e in
           let branch : Join = (pc ++ r) ++ v in
@@ -321,7 +321,7 @@ module _ (m : ℕ → Join) where
           (λ y k h is a i. take y k (has-right (thrown ++ yes_exits) no_exits y h) is a
           (sub-right (raised_exit_labels e (pc ++ r) y ++ yes_exit_labels y) (no_exit_labels y) a i))
           (λ t fit. closed-statements else_block true (inner_atom n) branch t (suc n + made_by_block then_block) part.1 agrees.2 b_below fit))))
-      closed-statement (While at loop e body) p pc exit_unknowns n part agrees below take =
+      closed-statement (Placed at (While loop e body)) p pc exit_unknowns n part agrees below take =
           let l : Join = one (label_of scope.program (ToLoop scope.number loop)) in
           let loop_atom : NamedAtom = renamed Real (label_of scope.program (ToLoop scope.number loop)) in
           let r : Join = raise_label scope e in
@@ -356,14 +356,14 @@ module _ (m : ℕ → Join) where
           (in_body ends exit_unknowns n x b e (l ++ r) agrees.1 take)
           (λ t fit. closed-statements body true (inner_atom n) b t (suc (suc n)) part agrees.2 b_below fit))
           (closed-rule_constraint scope at 8 (inner_atom (suc n) ∷ []) (ToLoop scope.number loop))))))
-      closed-statement (Leave at exit) p pc exit_unknowns n part agrees below take =
+      closed-statement (Placed at (Leave exit)) p pc exit_unknowns n part agrees below take =
           closed-flow (p ∷ []) (exit_unknowns exit) (λ k is. below-sub (p ∷ []) pc (m k) below (take exit k (or_left (same_exit exit exit) false (same_exit-itself exit)) is))
-      closed-statement (ReturnWith at (Some e)) p pc exit_unknowns n part agrees below take =
+      closed-statement (Placed at (ReturnWith (Some e))) p pc exit_unknowns n part agrees below take =
           closed-demanding at 10 (p ∷ named_atoms (value_label scope e)) (ToValue scope.number) (p ∷ named_atoms (raise_atoms scope e)) (pc ++ raise_label scope e)
           exit_unknowns Return (raises e) (raises-two e) (pc-below p pc (raise_atoms scope e) (pc ++ raise_label scope e) below (alike-raise scope pc e).0) take
-      closed-statement (ReturnWith at None) p pc exit_unknowns n part agrees below take =
+      closed-statement (Placed at (ReturnWith None)) p pc exit_unknowns n part agrees below take =
           closed-flow (p ∷ []) (exit_unknowns Return) (λ k is. below-sub (p ∷ []) pc (m k) below (take Return k refl is))
-      closed-statement (Try at block handlers) p pc exit_unknowns n part agrees below take =
+      closed-statement (Placed at (Try block handlers)) p pc exit_unknowns n part agrees below take =
           let ends : List Exit = block_exits scope.program block in
           let x : ExitLabels = block_exit_labels scope pc block in
           let number : ℕ → ℕ = λ y. handler_number handlers n y in
@@ -376,7 +376,7 @@ module _ (m : ℕ → Join) where
           (closed-handlers handlers number x exit_unknowns ((n + handler_count handlers) + made_by_block block) part.1 agrees.2 agrees.0 (λ y k h is a i.
           take y k (has-right (filter (passes handlers) ends) (handlers_exits scope.program handlers) y h) is a
           (sub-right (list_if (passes handlers y) (x y)) (handlers_rule scope x handlers y) a i)))
-      closed-statement (Nested at block) p pc exit_unknowns n part agrees below take =
+      closed-statement (Placed at (Nested block)) p pc exit_unknowns n part agrees below take =
           closed-block (block_exits scope.program block) p exit_unknowns pc (block_rule scope pc block) (λ t. block_constraints scope true p t n block) below take
           (λ t fit. closed-statements block true p pc t n part agrees below fit)
 

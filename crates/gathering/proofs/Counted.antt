@@ -4,7 +4,7 @@ use Rattle.std.specs.Prelude.{IsTrue, Some, sum_by, slice_get}
 use Rattle.std.specs.List.{list_all}
 use Rattle.std.proofs.lemmas.Bool.{and_parts}
 use Rattle.std.proofs.lemmas.List.Recursion.{is_sum_by}
-use Rattle.resolved.specs.Tree.{Statement, Assign, Clear, Store, Receive, Send, Call, If, While, Leave, ReturnWith, Try, Nested, Block, Empty, Then, Handlers, NoMore, Catch}
+use Rattle.resolved.specs.Tree.{Statement, Placed, Assign, Clear, Store, Receive, Send, Call, If, While, Leave, ReturnWith, Try, Nested, Block, Empty, Then, Handlers, NoMore, Catch}
 use Rattle.resolved.specs.Program.{Program, ProcedureEntry}
 use Rattle.resolved.specs.Labelled.{Scope, here}
 use Rattle.resolved.specs.WellFormed.{statement_nodes, block_nodes, handlers_nodes, procedure_nodes, program_nodes, statement_loops, block_loops, handlers_loops, procedure_fits, well_formed}
@@ -16,24 +16,24 @@ use Rattle.gathering.proofs.Small.{nodes_in}
 
 mutual
   made-statement : (s : Statement) → made_by_statement s + 1 ≤ 3 * statement_nodes s
-  made-statement (Assign at x e) = omega arith
-  made-statement (Clear at slot) = omega arith
-  made-statement (Store at array len index e) = omega arith
-  made-statement (Receive at channel target) = omega arith
-  made-statement (Send at channel e) = omega arith
-  made-statement (Call at callee arguments target) = omega arith
-  made-statement (If at e then_block else_block) =
+  made-statement (Placed at (Assign x e)) = omega arith
+  made-statement (Placed at (Clear slot)) = omega arith
+  made-statement (Placed at (Store array len index e)) = omega arith
+  made-statement (Placed at (Receive channel target)) = omega arith
+  made-statement (Placed at (Send channel e)) = omega arith
+  made-statement (Placed at (Call callee arguments target)) = omega arith
+  made-statement (Placed at (If e then_block else_block)) =
       let i : made_by_block then_block ≤ 3 * block_nodes then_block = made-block then_block in
       let j : made_by_block else_block ≤ 3 * block_nodes else_block = made-block else_block in
       omega (arith, i, j)
-  made-statement (While at loop e body) = let i : made_by_block body ≤ 3 * block_nodes body = made-block body in omega (arith, i)
-  made-statement (Leave at exit) = omega arith
-  made-statement (ReturnWith at e) = omega arith
-  made-statement (Try at block handlers) =
+  made-statement (Placed at (While loop e body)) = let i : made_by_block body ≤ 3 * block_nodes body = made-block body in omega (arith, i)
+  made-statement (Placed at (Leave exit)) = omega arith
+  made-statement (Placed at (ReturnWith e)) = omega arith
+  made-statement (Placed at (Try block handlers)) =
       let i : made_by_block block ≤ 3 * block_nodes block = made-block block in
       let j : handler_count handlers + made_by_handlers handlers ≤ 3 * handlers_nodes handlers = made-handlers handlers in
       omega (arith, i, j)
-  made-statement (Nested at block) = let i : made_by_block block ≤ 3 * block_nodes block = made-block block in omega (arith, i)
+  made-statement (Placed at (Nested block)) = let i : made_by_block block ≤ 3 * block_nodes block = made-block block in omega (arith, i)
 
   made-block : (block : Block) → made_by_block block ≤ 3 * block_nodes block
   made-block Empty = omega arith
@@ -51,26 +51,26 @@ mutual
 
 mutual
   loops-statement : (s : Statement) → length (statement_loops s) ≤ statement_nodes s
-  loops-statement (Assign at x e) = omega arith
-  loops-statement (Clear at slot) = omega arith
-  loops-statement (Store at array len index e) = omega arith
-  loops-statement (Receive at channel target) = omega arith
-  loops-statement (Send at channel e) = omega arith
-  loops-statement (Call at callee arguments target) = omega arith
-  loops-statement (If at e then_block else_block) =
+  loops-statement (Placed at (Assign x e)) = omega arith
+  loops-statement (Placed at (Clear slot)) = omega arith
+  loops-statement (Placed at (Store array len index e)) = omega arith
+  loops-statement (Placed at (Receive channel target)) = omega arith
+  loops-statement (Placed at (Send channel e)) = omega arith
+  loops-statement (Placed at (Call callee arguments target)) = omega arith
+  loops-statement (Placed at (If e then_block else_block)) =
       let i : length (block_loops then_block) ≤ block_nodes then_block = loops-block then_block in
       let j : length (block_loops else_block) ≤ block_nodes else_block = loops-block else_block in
       let k : length (block_loops then_block ++ block_loops else_block) ≡ length (block_loops then_block) + length (block_loops else_block) = length-append (block_loops then_block) (block_loops else_block) in
       omega (arith, i, j, k)
-  loops-statement (While at loop e body) = let i : length (block_loops body) ≤ block_nodes body = loops-block body in omega (arith, i)
-  loops-statement (Leave at exit) = omega arith
-  loops-statement (ReturnWith at e) = omega arith
-  loops-statement (Try at block handlers) =
+  loops-statement (Placed at (While loop e body)) = let i : length (block_loops body) ≤ block_nodes body = loops-block body in omega (arith, i)
+  loops-statement (Placed at (Leave exit)) = omega arith
+  loops-statement (Placed at (ReturnWith e)) = omega arith
+  loops-statement (Placed at (Try block handlers)) =
       let i : length (block_loops block) ≤ block_nodes block = loops-block block in
       let j : length (handlers_loops handlers) ≤ handlers_nodes handlers = loops-handlers handlers in
       let k : length (block_loops block ++ handlers_loops handlers) ≡ length (block_loops block) + length (handlers_loops handlers) = length-append (block_loops block) (handlers_loops handlers) in
       omega (arith, i, j, k)
-  loops-statement (Nested at block) = let i : length (block_loops block) ≤ block_nodes block = loops-block block in omega (arith, i)
+  loops-statement (Placed at (Nested block)) = let i : length (block_loops block) ≤ block_nodes block = loops-block block in omega (arith, i)
 
   loops-block : (block : Block) → length (block_loops block) ≤ block_nodes block
   loops-block Empty = omega arith

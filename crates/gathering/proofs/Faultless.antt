@@ -6,7 +6,7 @@ use Rattle.lattices.specs.Constraints.{IsGathered}
 use Rattle.resolved.specs.FaultParts.{place_of, may_stand, inner_faults, may_exit}
 use Rattle.resolved.specs.declared.statement.Exit.{Exit}
 use Rattle.resolved.specs.declared.statement.Exit.TheVariants.{Normal, Throw}
-use Rattle.resolved.specs.Tree.{Statement, Assign, Clear, Store, Receive, Send, Call, If, While, Leave, ReturnWith, Try, Nested, Block, Empty, Then, Handlers, NoMore, Catch}
+use Rattle.resolved.specs.Tree.{Statement, Placed, Assign, Clear, Store, Receive, Send, Call, If, While, Leave, ReturnWith, Try, Nested, Block, Empty, Then, Handlers, NoMore, Catch}
 use Rattle.resolved.specs.Program.{Program, ProcedureEntry}
 use Rattle.resolved.specs.Exits.{same_exit, has_exit, statement_exits, block_exits, fault_unless}
 use Rattle.resolved.specs.ExitFaults.{block_faults, handlers_faults, procedure_faults}
@@ -43,24 +43,24 @@ module _ (program : Program) where
 
   mutual
     part-from : (s : Statement) (loop : Bool) → inner_faults program loop s ≡ [] → Part program s
-    part-from (Assign at x e) loop none = tt
-    part-from (Clear at slot) loop none = tt
-    part-from (Store at array len index e) loop none = tt
-    part-from (Receive at channel target) loop none = tt
-    part-from (Send at channel e) loop none = tt
-    part-from (Call at procedure arguments target) loop none = tt
-    part-from (If at e then_block else_block) loop none =
+    part-from (Placed at (Assign x e)) loop none = tt
+    part-from (Placed at (Clear slot)) loop none = tt
+    part-from (Placed at (Store array len index e)) loop none = tt
+    part-from (Placed at (Receive channel target)) loop none = tt
+    part-from (Placed at (Send channel e)) loop none = tt
+    part-from (Placed at (Call procedure arguments target)) loop none = tt
+    part-from (Placed at (If e then_block else_block)) loop none =
         let yes : List (RefusalAt ExitRefusalKind) = block_faults program loop true then_block in
         let no : List (RefusalAt ExitRefusalKind) = block_faults program loop true else_block in
         (part_in-from then_block loop true (none-left yes no none), part_in-from else_block loop true (none-right yes no none))
-    part-from (While at l e body) loop none = part_in-from body true true none
-    part-from (Leave at exit) loop none = tt
-    part-from (ReturnWith at value) loop none = tt
-    part-from (Try at block handlers) loop none =
+    part-from (Placed at (While l e body)) loop none = part_in-from body true true none
+    part-from (Placed at (Leave exit)) loop none = tt
+    part-from (Placed at (ReturnWith value)) loop none = tt
+    part-from (Placed at (Try block handlers)) loop none =
         let own : List (RefusalAt ExitRefusalKind) = block_faults program loop true block in
         let more : List (RefusalAt ExitRefusalKind) = handlers_faults program loop (block_exits program block) handlers in
         (part_in-from block loop true (none-left own more none), part_by-from handlers loop (block_exits program block) (none-right own more none))
-    part-from (Nested at block) loop none = part_in-from block loop true none
+    part-from (Placed at (Nested block)) loop none = part_in-from block loop true none
 
     pub part_in-from : (block : Block) (loop b : Bool) → block_faults program loop b block ≡ [] → PartIn program block
     part_in-from Empty loop b none = tt

@@ -10,7 +10,7 @@ use Rattle.resolved.specs.declared.expression.Variable.TheVariants.{Local}
 use Rattle.resolved.specs.declared.statement.Exit.{Exit}
 use Rattle.resolved.specs.declared.statement.Exit.TheVariants.{Normal, Return, Break, Continue, Throw}
 use Rattle.resolved.specs.declared.target.Target.TheVariants.{ToVariable, ToChannel, ToBegin, ToValue, ToLoop}
-use Rattle.resolved.specs.Tree.{Expression, Statement, Assign, Clear, Store, Receive, Send, Call, If, While, Leave, ReturnWith, Try, Nested, Block, Empty, Then, Handlers, NoMore, Catch}
+use Rattle.resolved.specs.Tree.{Expression, Statement, Placed, Assign, Clear, Store, Receive, Send, Call, If, While, Leave, ReturnWith, Try, Nested, Block, Empty, Then, Handlers, NoMore, Catch}
 use Rattle.resolved.specs.Program.{Program}
 use Rattle.common.specs.declared.exceptions.TheConstants.{END}
 use Rattle.resolved.specs.Exits.{same_exit, has_exit, one_exit, index_raises, raises, thrown_exits, handles, passes, statement_exits, block_exits, list_if}
@@ -181,7 +181,7 @@ module _ (cs : List NamedConstraint) where
     pub fed-call : (at callee : ℕ) (arguments : List Expression) (target : Option Variable) (p : NamedAtom) (pc : Join) (exit_unknowns : ExitUnknowns) (n : ℕ) → Fed (p ∷ []) pc →
         Within (call_constraints scope p exit_unknowns n at callee arguments target) →
         Fed (inner_atom n ∷ []) (pc ++ flat_map (raise_label scope) arguments)
-        × Gives (statement_exits scope.program (Call at callee arguments target)) exit_unknowns (call_exit_labels scope.program callee (pc ++ flat_map (raise_label scope) arguments))
+        × Gives (statement_exits scope.program (Placed at (Call callee arguments target))) exit_unknowns (call_exit_labels scope.program callee (pc ++ flat_map (raise_label scope) arguments))
     fed-call at callee arguments target p pc exit_unknowns n fed within =
         let j : Join = pc ++ flat_map (raise_label scope) arguments in
         let ends : List Exit = call_exits scope.program callee arguments in
@@ -200,21 +200,21 @@ module _ (cs : List NamedConstraint) where
     mutual
       pub fed-statement : (s : Statement) (p : NamedAtom) (pc : Join) (exit_unknowns : ExitUnknowns) (n : ℕ) → Part scope.program s → Fed (p ∷ []) pc → Within (statement_constraints scope p exit_unknowns n s) →
           Gives (statement_exits scope.program s) exit_unknowns (statement_rule scope pc s)
-      fed-statement (Assign at x e) p pc exit_unknowns n part fed within y k has is =
+      fed-statement (Placed at (Assign x e)) p pc exit_unknowns n part fed within y k has is =
           let q : List NamedAtom = p ∷ named_atoms (raise_atoms scope e) in
           fed-own q (pc ++ raise_label scope e) exit_unknowns Normal (raises e) (raises-two e)
           (within-right (rule_constraint scope at 1 (p ∷ named_atoms (value_label scope e)) (ToVariable scope.number x)) (flow q (exit_unknowns Normal) ++ raised_flows q exit_unknowns (raises e)) within)
           (pc-fed p pc (raise_atoms scope e) (pc ++ raise_label scope e) fed (alike-raise scope pc e).1) y k has is
-      fed-statement (Clear at slot) p pc exit_unknowns n part fed within y k has is =
+      fed-statement (Placed at (Clear slot)) p pc exit_unknowns n part fed within y k has is =
           fed-flow (p ∷ []) (exit_unknowns Normal) pc (within-right (rule_constraint scope at 2 (p ∷ []) (ToVariable scope.number (Local slot))) (flow (p ∷ []) (exit_unknowns Normal)) within) fed k
           (ap exit_unknowns (sym (single-end Normal [] y refl has)) ∙ is)
-      fed-statement (Store at array len index e) p pc exit_unknowns n part fed within y k has is =
+      fed-statement (Placed at (Store array len index e)) p pc exit_unknowns n part fed within y k has is =
           let q : List NamedAtom = p ∷ named_atoms (store_atoms scope len index e) in
           let raised : List ℕ = raises index ++ raises e ++ index_raises index len in
           fed-own q (store_label scope pc len index e) exit_unknowns Normal raised (store-two index e len)
           (within-right (rule_constraint scope at 3 (p ∷ named_atoms (value_label scope index ++ value_label scope e)) (ToVariable scope.number array)) (flow q (exit_unknowns Normal) ++ raised_flows q exit_unknowns raised) within)
           (pc-fed p pc (store_atoms scope len index e) (store_label scope pc len index e) fed (alike-store scope pc len index e).1) y k has is
-      fed-statement (Receive at channel target) p pc exit_unknowns n part fed within y k has is =
+      fed-statement (Placed at (Receive channel target)) p pc exit_unknowns n part fed within y k has is =
           let label : Join = one (label_of scope.program (ToChannel channel)) in
           let q : List NamedAtom = p ∷ named_atoms label in
           let out : List NamedConstraint = flow q (exit_unknowns Normal) in
@@ -226,13 +226,13 @@ module _ (cs : List NamedConstraint) where
           (λ same. fed-flow q (exit_unknowns Normal) (pc ++ label) (within-left out end last) q_fed k (ap exit_unknowns (sym (same-exit y Normal same)) ∙ is))
           (λ h. fed-flow q (exit_unknowns (Throw END)) (pc ++ label) (within-right out end last) q_fed k (ap exit_unknowns (sym (single-end (Throw END) [] y refl h)) ∙ is))
           (or_cases (same_exit y Normal) (has_exit (Throw END ∷ []) y) has)
-      fed-statement (Send at channel e) p pc exit_unknowns n part fed within y k has is =
+      fed-statement (Placed at (Send channel e)) p pc exit_unknowns n part fed within y k has is =
           let q : List NamedAtom = p ∷ named_atoms (raise_atoms scope e) in
           fed-own q (pc ++ raise_label scope e) exit_unknowns Normal (raises e) (raises-two e)
           (within-right (rule_constraint scope at 5 (p ∷ named_atoms (value_label scope e)) (ToChannel channel)) (flow q (exit_unknowns Normal) ++ raised_flows q exit_unknowns (raises e)) within)
           (pc-fed p pc (raise_atoms scope e) (pc ++ raise_label scope e) fed (alike-raise scope pc e).1) y k has is
-      fed-statement (Call at procedure arguments target) p pc exit_unknowns n part fed within y k has is = (fed-call at procedure arguments target p pc exit_unknowns n fed within).1 y k has is
-      fed-statement (If at e then_block else_block) p pc exit_unknowns n part fed within y k has is =
+      fed-statement (Placed at (Call procedure arguments target)) p pc exit_unknowns n part fed within y k has is = (fed-call at procedure arguments target p pc exit_unknowns n fed within).1 y k has is
+      fed-statement (Placed at (If e then_block else_block)) p pc exit_unknowns n part fed within y k has is =
           let r : Join = raise_label scope e in
           let v : Join = value_label scope e in
           let branch : Join = (pc ++ r) ++ v in
@@ -255,7 +255,7 @@ module _ (cs : List NamedConstraint) where
           (within-left third fourth branches) b_fed (λ t w. fed-statements then_block true (inner_atom n) branch t (suc n) part.0 (λ i. absurd (cc)) b_fed w) y k is)
           (fed-block no_exits (inner_atom n) exit_unknowns branch (block_rule scope branch else_block) (λ t. block_constraints scope true (inner_atom n) t (suc n + made_by_block then_block) else_block)
           (within-right third fourth branches) b_fed (λ t w. fed-statements else_block true (inner_atom n) branch t (suc n + made_by_block then_block) part.1 (λ i. absurd (cc)) b_fed w) y k is)
-      fed-statement (While at loop e body) p pc exit_unknowns n part fed within y k has is =
+      fed-statement (Placed at (While loop e body)) p pc exit_unknowns n part fed within y k has is =
           let l : Join = one (label_of scope.program (ToLoop scope.number loop)) in
           let loop_atom : NamedAtom = renamed Real (label_of scope.program (ToLoop scope.number loop)) in
           let r : Join = raise_label scope e in
@@ -285,16 +285,16 @@ module _ (cs : List NamedConstraint) where
           (fed-block ends (inner_atom n) (in_loop (suc n) exit_unknowns) b (block_rule scope b body) (λ t. block_constraints scope true (inner_atom n) t (suc (suc n)) body)
           in_third b_fed (λ t w. fed-statements body true (inner_atom n) b t (suc (suc n)) part (λ i. absurd (cc)) b_fed w)) y k is a t)
           (Contains-append_cases (raised_exit_labels e (l ++ r) y) (loop_exit_labels b x y) a there)
-      fed-statement (Leave at exit) p pc exit_unknowns n part fed within y k has is =
+      fed-statement (Placed at (Leave exit)) p pc exit_unknowns n part fed within y k has is =
           fed-flow (p ∷ []) (exit_unknowns exit) pc within fed k (ap exit_unknowns (sym (single-end exit [] y refl has)) ∙ is)
-      fed-statement (ReturnWith at (Some e)) p pc exit_unknowns n part fed within y k has is =
+      fed-statement (Placed at (ReturnWith (Some e))) p pc exit_unknowns n part fed within y k has is =
           let q : List NamedAtom = p ∷ named_atoms (raise_atoms scope e) in
           fed-own q (pc ++ raise_label scope e) exit_unknowns Return (raises e) (raises-two e)
           (within-right (rule_constraint scope at 10 (p ∷ named_atoms (value_label scope e)) (ToValue scope.number)) (flow q (exit_unknowns Return) ++ raised_flows q exit_unknowns (raises e)) within)
           (pc-fed p pc (raise_atoms scope e) (pc ++ raise_label scope e) fed (alike-raise scope pc e).1) y k has is
-      fed-statement (ReturnWith at None) p pc exit_unknowns n part fed within y k has is =
+      fed-statement (Placed at (ReturnWith None)) p pc exit_unknowns n part fed within y k has is =
           fed-flow (p ∷ []) (exit_unknowns Return) pc within fed k (ap exit_unknowns (sym (single-end Return [] y refl has)) ∙ is)
-      fed-statement (Try at block handlers) p pc exit_unknowns n part fed within y k has is = λ a there.
+      fed-statement (Placed at (Try block handlers)) p pc exit_unknowns n part fed within y k has is = λ a there.
           let ends : List Exit = block_exits scope.program block in
           let x : ExitLabels = block_exit_labels scope pc block in
           let number : ℕ → ℕ = λ z. handler_number handlers n z in
@@ -308,7 +308,7 @@ module _ (cs : List NamedConstraint) where
           (λ t. fed-handlers handlers number x exit_unknowns ((n + handler_count handlers) + made_by_block block) part.1
           (λ z h. gives (Throw z) (number z) (in_try-taken number handlers exit_unknowns z h)) (within-right first second within) y k is a t)
           (Contains-append_cases (list_if (passes handlers y) (x y)) (handlers_rule scope x handlers y) a there)
-      fed-statement (Nested at block) p pc exit_unknowns n part fed within y k has is =
+      fed-statement (Placed at (Nested block)) p pc exit_unknowns n part fed within y k has is =
           fed-block (block_exits scope.program block) p exit_unknowns pc (block_rule scope pc block) (λ t. block_constraints scope true p t n block) within fed
           (λ t w. fed-statements block true p pc t n part (λ i. absurd (cc)) fed w) y k is
 

@@ -3,7 +3,7 @@ use Rattle.std.proofs.Common.{◌≡◌, refl, ap, ◌∙◌, subst, ℕ, zero, 
 use Rattle.std.specs.Prelude.{if◌then◌else◌, ◌==◌, flat_map}
 use Rattle.resolved.specs.declared.statement.Exit.TheVariants.{Normal, Continue, Throw}
 use Rattle.resolved.specs.declared.target.Target.TheVariants.{ToLoop}
-use Rattle.resolved.specs.Tree.{Statement, Assign, Clear, Store, Receive, Send, Call, If, While, Leave, ReturnWith, Try, Nested, Block, Empty, Then, Handlers, NoMore, Catch}
+use Rattle.resolved.specs.Tree.{Statement, Placed, Assign, Clear, Store, Receive, Send, Call, If, While, Leave, ReturnWith, Try, Nested, Block, Empty, Then, Handlers, NoMore, Catch}
 use Rattle.resolved.specs.Exits.{handles}
 use Rattle.resolved.specs.Labelled.{Scope, Join, one, label_of, value_label, raise_label, ExitLabels}
 use Rattle.resolved.specs.LabelRules.{statement_exit_labels, block_exit_labels}
@@ -44,24 +44,24 @@ module _ (m : ℕ → Join) where
 module _ (scope : Scope) where
   abbrev mutual
     pub meanings : (pc : Join) → Statement → List Join
-    meanings pc (Assign at x e) = []
-    meanings pc (Clear at slot) = []
-    meanings pc (Store at array length index e) = []
-    meanings pc (Receive at channel target) = []
-    meanings pc (Send at channel e) = []
-    meanings pc (Call at procedure arguments target) = (pc ++ flat_map (raise_label scope) arguments) ∷ []
-    meanings pc (If at e then_block else_block) =
+    meanings pc (Placed at (Assign x e)) = []
+    meanings pc (Placed at (Clear slot)) = []
+    meanings pc (Placed at (Store array length index e)) = []
+    meanings pc (Placed at (Receive channel target)) = []
+    meanings pc (Placed at (Send channel e)) = []
+    meanings pc (Placed at (Call procedure arguments target)) = (pc ++ flat_map (raise_label scope) arguments) ∷ []
+    meanings pc (Placed at (If e then_block else_block)) =
         let branch : Join = (pc ++ raise_label scope e) ++ value_label scope e in
         branch ∷ (meanings_in branch then_block ++ meanings_in branch else_block)
-    meanings pc (While at loop e body) =
+    meanings pc (Placed at (While loop e body)) =
         let b : Join = (one (label_of scope.program (ToLoop scope.number loop)) ++ raise_label scope e) ++ value_label scope e in
         b ∷ ((block_exit_labels scope b body Normal ++ block_exit_labels scope b body Continue) ∷ meanings_in b body)
-    meanings pc (Leave at exit) = []
-    meanings pc (ReturnWith at value) = []
-    meanings pc (Try at block handlers) =
+    meanings pc (Placed at (Leave exit)) = []
+    meanings pc (Placed at (ReturnWith value)) = []
+    meanings pc (Placed at (Try block handlers)) =
         let x : ExitLabels = block_exit_labels scope pc block in
         handled_at x handlers ++ (meanings_in pc block ++ meanings_by x handlers)
-    meanings pc (Nested at block) = meanings_in pc block
+    meanings pc (Placed at (Nested block)) = meanings_in pc block
 
     pub meanings_in : (pc : Join) → Block → List Join
     meanings_in pc Empty = []
@@ -78,27 +78,27 @@ module _ (scope : Scope) where
 
   mutual
     pub meanings-made : (s : Statement) (pc : Join) → length (meanings pc s) ≡ made_by_statement s
-    meanings-made (Assign at x e) pc = refl
-    meanings-made (Clear at slot) pc = refl
-    meanings-made (Store at array len index e) pc = refl
-    meanings-made (Receive at channel target) pc = refl
-    meanings-made (Send at channel e) pc = refl
-    meanings-made (Call at procedure arguments target) pc = refl
-    meanings-made (If at e then_block else_block) pc =
+    meanings-made (Placed at (Assign x e)) pc = refl
+    meanings-made (Placed at (Clear slot)) pc = refl
+    meanings-made (Placed at (Store array len index e)) pc = refl
+    meanings-made (Placed at (Receive channel target)) pc = refl
+    meanings-made (Placed at (Send channel e)) pc = refl
+    meanings-made (Placed at (Call procedure arguments target)) pc = refl
+    meanings-made (Placed at (If e then_block else_block)) pc =
         let branch : Join = (pc ++ raise_label scope e) ++ value_label scope e in
         ap suc (length-append (meanings_in branch then_block) (meanings_in branch else_block)
         ∙ ap (λ k. k + length (meanings_in branch else_block)) (meanings_in-made then_block branch) ∙ ap (λ k. made_by_block then_block + k) (meanings_in-made else_block branch))
-    meanings-made (While at loop e body) pc =
+    meanings-made (Placed at (While loop e body)) pc =
         ap (λ k. suc (suc k)) (meanings_in-made body ((one (label_of scope.program (ToLoop scope.number loop)) ++ raise_label scope e) ++ value_label scope e))
-    meanings-made (Leave at exit) pc = refl
-    meanings-made (ReturnWith at value) pc = refl
-    meanings-made (Try at block handlers) pc =
+    meanings-made (Placed at (Leave exit)) pc = refl
+    meanings-made (Placed at (ReturnWith value)) pc = refl
+    meanings-made (Placed at (Try block handlers)) pc =
         let x : ExitLabels = block_exit_labels scope pc block in
         length-append (handled_at x handlers) (meanings_in pc block ++ meanings_by x handlers)
         ∙ ap (λ k. k + length (meanings_in pc block ++ meanings_by x handlers)) (handled-count handlers x)
         ∙ ap (λ k. handler_count handlers + k) (length-append (meanings_in pc block) (meanings_by x handlers)
         ∙ ap (λ k. k + length (meanings_by x handlers)) (meanings_in-made block pc) ∙ ap (λ k. made_by_block block + k) (meanings_by-made handlers x))
-    meanings-made (Nested at block) pc = meanings_in-made block pc
+    meanings-made (Placed at (Nested block)) pc = meanings_in-made block pc
 
     pub meanings_in-made : (block : Block) (pc : Join) → length (meanings_in pc block) ≡ made_by_block block
     meanings_in-made Empty pc = refl
@@ -125,24 +125,24 @@ module _ (scope : Scope) where
 
     mutual
       agrees-from : (s : Statement) (n : ℕ) (pc : Join) → Starts m n (meanings pc s) → Agrees scope m n pc s
-      agrees-from (Assign at x e) n pc h = tt
-      agrees-from (Clear at slot) n pc h = tt
-      agrees-from (Store at array len index e) n pc h = tt
-      agrees-from (Receive at channel target) n pc h = tt
-      agrees-from (Send at channel e) n pc h = tt
-      agrees-from (Call at procedure arguments target) n pc h = h.0
-      agrees-from (If at e then_block else_block) n pc h =
+      agrees-from (Placed at (Assign x e)) n pc h = tt
+      agrees-from (Placed at (Clear slot)) n pc h = tt
+      agrees-from (Placed at (Store array len index e)) n pc h = tt
+      agrees-from (Placed at (Receive channel target)) n pc h = tt
+      agrees-from (Placed at (Send channel e)) n pc h = tt
+      agrees-from (Placed at (Call procedure arguments target)) n pc h = h.0
+      agrees-from (Placed at (If e then_block else_block)) n pc h =
           let branch : Join = (pc ++ raise_label scope e) ++ value_label scope e in (
             h.0,
             agrees_in-from then_block (suc n) branch (starts-left m (suc n) (meanings_in branch then_block) (meanings_in branch else_block) h.1),
             agrees_in-from else_block (suc n + made_by_block then_block) branch (subst (λ k. Starts m (suc n + k) (meanings_in branch else_block)) (meanings_in-made then_block branch)
                 (starts-right m (suc n) (meanings_in branch then_block) (meanings_in branch else_block) h.1)),
           )
-      agrees-from (While at loop e body) n pc h =
+      agrees-from (Placed at (While loop e body)) n pc h =
           (h.0, h.1.0, agrees_in-from body (suc (suc n)) ((one (label_of scope.program (ToLoop scope.number loop)) ++ raise_label scope e) ++ value_label scope e) h.1.1)
-      agrees-from (Leave at exit) n pc h = tt
-      agrees-from (ReturnWith at value) n pc h = tt
-      agrees-from (Try at block handlers) n pc h =
+      agrees-from (Placed at (Leave exit)) n pc h = tt
+      agrees-from (Placed at (ReturnWith value)) n pc h = tt
+      agrees-from (Placed at (Try block handlers)) n pc h =
           let x : ExitLabels = block_exit_labels scope pc block in
           let after : Starts m (n + handler_count handlers) (meanings_in pc block ++ meanings_by x handlers) =
           subst (λ k. Starts m (n + k) (meanings_in pc block ++ meanings_by x handlers)) (handled-count handlers x)
@@ -152,7 +152,7 @@ module _ (scope : Scope) where
             agrees_by-from handlers ((n + handler_count handlers) + made_by_block block) x (subst (λ k. Starts m ((n + handler_count handlers) + k) (meanings_by x handlers)) (meanings_in-made block pc)
                 (starts-right m (n + handler_count handlers) (meanings_in pc block) (meanings_by x handlers) after)),
           )
-      agrees-from (Nested at block) n pc h = agrees_in-from block n pc h
+      agrees-from (Placed at (Nested block)) n pc h = agrees_in-from block n pc h
 
       pub agrees_in-from : (block : Block) (n : ℕ) (pc : Join) → Starts m n (meanings_in pc block) → AgreesIn scope m n pc block
       agrees_in-from Empty n pc h = tt

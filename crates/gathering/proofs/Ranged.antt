@@ -15,7 +15,7 @@ use Rattle.resolved.specs.declared.statement.Exit.{Exit}
 use Rattle.resolved.specs.declared.statement.Exit.TheVariants.{Normal, Return, Break, Continue, Throw}
 use Rattle.resolved.specs.declared.target.Target.{Target}
 use Rattle.resolved.specs.declared.target.Target.TheVariants.{ToVariable, ToChannel, ToBegin, ToParameter, ToValue, ToEnd, ToThrown, ToLoop}
-use Rattle.resolved.specs.Tree.{Expression, Integer, Logical, Read, Element, Unary, Binary, Short, Statement, Assign, Clear, Store, Receive, Send, Call, If, While, Leave, ReturnWith, Try, Nested, Block, Empty, Then, Handlers, NoMore, Catch}
+use Rattle.resolved.specs.Tree.{Expression, Integer, Logical, Read, Element, Unary, Binary, Short, Statement, Placed, Assign, Clear, Store, Receive, Send, Call, If, While, Leave, ReturnWith, Try, Nested, Block, Empty, Then, Handlers, NoMore, Catch}
 use Rattle.resolved.specs.Program.{Program, ProcedureEntry, SlotEntry, ThrownEntry, procedure_at, slot_at}
 use Rattle.common.specs.declared.exceptions.TheConstants.{END}
 use Rattle.resolved.specs.Exits.{has_exit, one_exit, index_can_raise, index_raises, handles, raises, thrown_exits, statement_exits, block_exits, list_if}
@@ -359,16 +359,16 @@ module _ (program : Program) (bound : ℕ) where
     mutual
       pub ranged-statement : (s : Statement) (p : NamedAtom) (exit_unknowns : ExitUnknowns) (n : ℕ) → statement_fits program own s ≡ true → LoopsFit (statement_loops s) → InRange p → ExitUnknownsInRange exit_unknowns →
           HasRoom n (made_by_statement s) → Ranged (statement_constraints own_scope p exit_unknowns n s)
-      ranged-statement (Assign at x e) p exit_unknowns n fits loops ok fit h =
+      ranged-statement (Placed at (Assign x e)) p exit_unknowns n fits loops ok fit h =
           let base = scalar-some (variable_type program own x) (λ base. has_base program own base e) fits in
           let v : JoinInRange (value_label own_scope e) = value-ok base.0 e base.1 in
           ranged-demanding at 1 p (value_label own_scope e) (raise_atoms own_scope e) (ToVariable f x) exit_unknowns Normal (raises e) ok v (raise-ok e v)
           (variable-ok x (scalar-there (variable_type program own x) (λ base. has_base program own base e) fits)) fit
-      ranged-statement (Clear at slot) p exit_unknowns n fits loops ok fit h =
+      ranged-statement (Placed at (Clear slot)) p exit_unknowns n fits loops ok fit h =
           ranged-append (rule_constraint own_scope at 2 (p ∷ []) (ToVariable f (Local slot))) (flow (p ∷ []) (exit_unknowns Normal))
           (ranged-rule at 2 (p ∷ []) (ToVariable f (Local slot)) (alone p ok) (variable-ok (Local slot) (is_array-there (variable_type program own (Local slot)) fits)))
           (ranged-flow (p ∷ []) (exit_unknowns Normal) (alone p ok) (fit Normal))
-      ranged-statement (Store at array len index e) p exit_unknowns n fits loops ok fit h =
+      ranged-statement (Placed at (Store array len index e)) p exit_unknowns n fits loops ok fit h =
           let parts = and_parts (array_by (variable_type program own array) len (λ base. has_base program own base e)) (has_base program own Int index) fits in
           let base = array-some (variable_type program own array) len (λ base. has_base program own base e) parts.0 in
           let v : JoinInRange (value_label own_scope e) = value-ok base.0 e base.1 in
@@ -378,7 +378,7 @@ module _ (program : Program) (bound : ℕ) where
           (join-append (if index_can_raise index len then value_label own_scope index else raise_atoms own_scope index) (raise_atoms own_scope e)
           (if-ok (index_can_raise index len) (value_label own_scope index) (raise_atoms own_scope index) i (raise-ok index i)) (raise-ok e v))
           (variable-ok array (array-there (variable_type program own array) len (λ base. has_base program own base e) parts.0)) fit
-      ranged-statement (Receive at channel target) p exit_unknowns n fits loops ok fit h =
+      ranged-statement (Placed at (Receive channel target)) p exit_unknowns n fits loops ok fit h =
           let label : Join = one (label_of program (ToChannel channel)) in
           let q : List NamedAtom = p ∷ named_atoms label in
           let q_ok : AllInRange q = pc-atoms p label ok (join-one (label_of program (ToChannel channel)) tt) in
@@ -389,12 +389,12 @@ module _ (program : Program) (bound : ℕ) where
           (ranged-target at 4 q target (same_base Int) q_ok (and_parts _ (target_by program own target (same_base Int)) fits).1)
           (ranged-append (flow q (exit_unknowns Normal)) (flow q (exit_unknowns (Throw END)))
           (ranged-flow q (exit_unknowns Normal) q_ok (fit Normal)) (ranged-flow q (exit_unknowns (Throw END)) q_ok (fit (Throw END)))))
-      ranged-statement (Send at channel e) p exit_unknowns n fits loops ok fit h =
+      ranged-statement (Placed at (Send channel e)) p exit_unknowns n fits loops ok fit h =
           let v : JoinInRange (value_label own_scope e) = value-ok Int e (and_parts _ (has_base program own Int e) fits).1 in
           ranged-demanding at 5 p (value_label own_scope e) (raise_atoms own_scope e) (ToChannel channel) exit_unknowns Normal (raises e) ok v (raise-ok e v) tt fit
-      ranged-statement (Call at callee arguments target) p exit_unknowns n fits loops ok fit h =
+      ranged-statement (Placed at (Call callee arguments target)) p exit_unknowns n fits loops ok fit h =
           ranged-call (slice_get program.procedures callee) at callee n arguments target p exit_unknowns fits ok fit (omega (arith, h.0), omega (arith, h.1))
-      ranged-statement (If at e then_block else_block) p exit_unknowns n fits loops ok fit h =
+      ranged-statement (Placed at (If e then_block else_block)) p exit_unknowns n fits loops ok fit h =
           let outer = and_parts (has_base program own Boolean e && block_fits program own then_block) (block_fits program own else_block) fits in
           let inner = and_parts (has_base program own Boolean e) (block_fits program own then_block) outer.0 in
           let v : JoinInRange (value_label own_scope e) = value-ok Boolean e inner.0 in
@@ -413,7 +413,7 @@ module _ (program : Program) (bound : ℕ) where
           (λ t k. ranged-block then_block true pc t (suc n) inner.1 (loops-left (block_loops then_block) (block_loops else_block) loops) made k (omega (arith, h.0), omega (arith, h.1))))
           (ranged-by_exits (block_exits program else_block) pc exit_unknowns (λ t. block_constraints own_scope true pc t (suc n + made_by_block then_block) else_block) made fit
           (λ t k. ranged-block else_block true pc t (suc n + made_by_block then_block) outer.1 (loops-right (block_loops then_block) (block_loops else_block) loops) made k (omega (arith, h.0), omega (arith, h.1))))))
-      ranged-statement (While at loop e body) p exit_unknowns n fits loops ok fit h =
+      ranged-statement (Placed at (While loop e body)) p exit_unknowns n fits loops ok fit h =
           let parts = and_parts (has_base program own Boolean e) (block_fits program own body) fits in
           let v : JoinInRange (value_label own_scope e) = value-ok Boolean e parts.0 in
           let loop_atom : NamedAtom = Unknown (Real (OfLoop f loop)) in
@@ -437,13 +437,13 @@ module _ (program : Program) (bound : ℕ) where
           (ranged-by_exits (block_exits program body) pc (in_loop (suc n) exit_unknowns) (λ t. block_constraints own_scope true pc t (suc (suc n)) body) made (loop-fits (suc n) exit_unknowns back fit)
           (λ t k. ranged-block body true pc t (suc (suc n)) parts.1 (λ l i. loops l (Contains-later loop (block_loops body) l i)) made k (omega (arith, h.0), omega (arith, h.1))))
           (ranged-rule at 8 (inner_atom (suc n) ∷ []) (ToLoop f loop) (alone (inner_atom (suc n)) back) turn_ok)))))
-      ranged-statement (Leave at exit) p exit_unknowns n fits loops ok fit h = ranged-flow (p ∷ []) (exit_unknowns exit) (alone p ok) (fit exit)
-      ranged-statement (ReturnWith at (Some e)) p exit_unknowns n fits loops ok fit h =
+      ranged-statement (Placed at (Leave exit)) p exit_unknowns n fits loops ok fit h = ranged-flow (p ∷ []) (exit_unknowns exit) (alone p ok) (fit exit)
+      ranged-statement (Placed at (ReturnWith (Some e))) p exit_unknowns n fits loops ok fit h =
           let base = result_some own.result (λ base. has_base program own base e) fits in
           let v : JoinInRange (value_label own_scope e) = value-ok base.0 e base.1 in
           ranged-demanding at 10 p (value_label own_scope e) (raise_atoms own_scope e) (ToValue f) exit_unknowns Return (raises e) ok v (raise-ok e v) tt fit
-      ranged-statement (ReturnWith at None) p exit_unknowns n fits loops ok fit h = ranged-flow (p ∷ []) (exit_unknowns Return) (alone p ok) (fit Return)
-      ranged-statement (Try at block handlers) p exit_unknowns n fits loops ok fit h =
+      ranged-statement (Placed at (ReturnWith None)) p exit_unknowns n fits loops ok fit h = ranged-flow (p ∷ []) (exit_unknowns Return) (alone p ok) (fit Return)
+      ranged-statement (Placed at (Try block handlers)) p exit_unknowns n fits loops ok fit h =
           let parts = and_parts (block_fits program own block) (handlers_fit program own handlers) fits in
           let number : ℕ → ℕ = λ x. handler_number handlers n x in
           let numbers : (x : ℕ) → handles handlers x ≡ true → IsMade (number x) =
@@ -457,7 +457,7 @@ module _ (program : Program) (bound : ℕ) where
           (ranged-by_exits (block_exits program block) p (in_try number handlers exit_unknowns) (λ t. block_constraints own_scope true p t (n + handler_count handlers) block) ok (try-fits number handlers exit_unknowns numbers fit)
           (λ t k. ranged-block block true p t (n + handler_count handlers) parts.0 (loops-left (block_loops block) (handlers_loops handlers) loops) ok k (omega (arith, h.0), omega (arith, h.1))))
           (ranged-handlers handlers number exit_unknowns ((n + handler_count handlers) + made_by_block block) parts.1 (loops-right (block_loops block) (handlers_loops handlers) loops) numbers fit (omega (arith, h.0), omega (arith, h.1)))
-      ranged-statement (Nested at block) p exit_unknowns n fits loops ok fit h =
+      ranged-statement (Placed at (Nested block)) p exit_unknowns n fits loops ok fit h =
           ranged-by_exits (block_exits program block) p exit_unknowns (λ t. block_constraints own_scope true p t n block) ok fit
           (λ t k. ranged-block block true p t n fits loops ok k h)
 

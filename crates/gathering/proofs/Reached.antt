@@ -3,7 +3,7 @@ use Rattle.std.specs.Prelude.{flat_map}
 use Rattle.std.proofs.Common.{◌≡◌, ℕ, suc, ◌+◌, true, ◌++◌}
 use Rattle.resolved.specs.declared.statement.Exit.TheVariants.{Normal, Continue, Throw}
 use Rattle.resolved.specs.declared.target.Target.TheVariants.{ToLoop}
-use Rattle.resolved.specs.Tree.{Statement, Assign, Clear, Store, Receive, Send, Call, If, While, Leave, ReturnWith, Try, Nested, Block, Empty, Then, Handlers, NoMore, Catch}
+use Rattle.resolved.specs.Tree.{Statement, Placed, Assign, Clear, Store, Receive, Send, Call, If, While, Leave, ReturnWith, Try, Nested, Block, Empty, Then, Handlers, NoMore, Catch}
 use Rattle.resolved.specs.Program.{Program}
 use Rattle.resolved.specs.Exits.{has_exit, handles, statement_exits}
 use Rattle.resolved.specs.Labelled.{Scope, Join, one, label_of, value_label, raise_label, ExitLabels}
@@ -17,18 +17,18 @@ Goes program statement (Then next rest) = has_exit (statement_exits program stat
 
 abbrev mutual
   pub Part : Program → Statement → Type 0
-  Part program (Assign at x e) = Unit {0}
-  Part program (Clear at slot) = Unit {0}
-  Part program (Store at array length index e) = Unit {0}
-  Part program (Receive at channel target) = Unit {0}
-  Part program (Send at channel e) = Unit {0}
-  Part program (Call at procedure arguments target) = Unit {0}
-  Part program (If at e then_block else_block) = PartIn program then_block × PartIn program else_block
-  Part program (While at loop e body) = PartIn program body
-  Part program (Leave at exit) = Unit {0}
-  Part program (ReturnWith at value) = Unit {0}
-  Part program (Try at block handlers) = PartIn program block × PartBy program handlers
-  Part program (Nested at block) = PartIn program block
+  Part program (Placed at (Assign x e)) = Unit {0}
+  Part program (Placed at (Clear slot)) = Unit {0}
+  Part program (Placed at (Store array length index e)) = Unit {0}
+  Part program (Placed at (Receive channel target)) = Unit {0}
+  Part program (Placed at (Send channel e)) = Unit {0}
+  Part program (Placed at (Call procedure arguments target)) = Unit {0}
+  Part program (Placed at (If e then_block else_block)) = PartIn program then_block × PartIn program else_block
+  Part program (Placed at (While loop e body)) = PartIn program body
+  Part program (Placed at (Leave exit)) = Unit {0}
+  Part program (Placed at (ReturnWith value)) = Unit {0}
+  Part program (Placed at (Try block handlers)) = PartIn program block × PartBy program handlers
+  Part program (Placed at (Nested block)) = PartIn program block
 
   pub PartIn : Program → Block → Type 0
   PartIn program Empty = Unit {0}
@@ -42,25 +42,25 @@ abbrev mutual
 module _ (scope : Scope) (m : ℕ → Join) where
   abbrev mutual
     pub Agrees : (n : ℕ) → (pc : Join) → Statement → Type 0
-    Agrees n pc (Assign at x e) = Unit {0}
-    Agrees n pc (Clear at slot) = Unit {0}
-    Agrees n pc (Store at array length index e) = Unit {0}
-    Agrees n pc (Receive at channel target) = Unit {0}
-    Agrees n pc (Send at channel e) = Unit {0}
-    Agrees n pc (Call at procedure arguments target) = m n ≡ (pc ++ flat_map (raise_label scope) arguments)
-    Agrees n pc (If at e then_block else_block) =
+    Agrees n pc (Placed at (Assign x e)) = Unit {0}
+    Agrees n pc (Placed at (Clear slot)) = Unit {0}
+    Agrees n pc (Placed at (Store array length index e)) = Unit {0}
+    Agrees n pc (Placed at (Receive channel target)) = Unit {0}
+    Agrees n pc (Placed at (Send channel e)) = Unit {0}
+    Agrees n pc (Placed at (Call procedure arguments target)) = m n ≡ (pc ++ flat_map (raise_label scope) arguments)
+    Agrees n pc (Placed at (If e then_block else_block)) =
         let branch : Join = (pc ++ raise_label scope e) ++ value_label scope e in
         (m n ≡ branch) × AgreesIn (suc n) branch then_block × AgreesIn (suc n + made_by_block then_block) branch else_block
-    Agrees n pc (While at loop e body) =
+    Agrees n pc (Placed at (While loop e body)) =
         let b : Join = (one (label_of scope.program (ToLoop scope.number loop)) ++ raise_label scope e) ++ value_label scope e in
         (m n ≡ b) × (m (suc n) ≡ (block_exit_labels scope b body Normal ++ block_exit_labels scope b body Continue)) × AgreesIn (suc (suc n)) b body
-    Agrees n pc (Leave at exit) = Unit {0}
-    Agrees n pc (ReturnWith at value) = Unit {0}
-    Agrees n pc (Try at block handlers) =
+    Agrees n pc (Placed at (Leave exit)) = Unit {0}
+    Agrees n pc (Placed at (ReturnWith value)) = Unit {0}
+    Agrees n pc (Placed at (Try block handlers)) =
         let x : ExitLabels = block_exit_labels scope pc block in
         ((y : ℕ) → handles handlers y ≡ true → m (handler_number handlers n y) ≡ x (Throw y))
         × AgreesIn (n + handler_count handlers) pc block × AgreesBy ((n + handler_count handlers) + made_by_block block) x handlers
-    Agrees n pc (Nested at block) = AgreesIn n pc block
+    Agrees n pc (Placed at (Nested block)) = AgreesIn n pc block
 
     pub AgreesIn : (n : ℕ) → (pc : Join) → Block → Type 0
     AgreesIn n pc Empty = Unit {0}

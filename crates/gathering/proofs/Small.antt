@@ -11,7 +11,7 @@ use Rattle.resolved.specs.declared.statement.Exit.{Exit}
 use Rattle.resolved.specs.declared.statement.Exit.TheVariants.{Normal, Return, Break, Continue, Throw}
 use Rattle.resolved.specs.declared.target.Target.{Target}
 use Rattle.resolved.specs.declared.target.Target.TheVariants.{ToVariable, ToChannel, ToBegin, ToValue, ToEnd, ToLoop}
-use Rattle.resolved.specs.Tree.{Expression, Integer, Logical, Read, Element, Unary, Binary, Short, Statement, Assign, Clear, Store, Receive, Send, Call, If, While, Leave, ReturnWith, Try, Nested, Block, Empty, Then, Handlers, NoMore, Catch}
+use Rattle.resolved.specs.Tree.{Expression, Integer, Logical, Read, Element, Unary, Binary, Short, Statement, Placed, Assign, Clear, Store, Receive, Send, Call, If, While, Leave, ReturnWith, Try, Nested, Block, Empty, Then, Handlers, NoMore, Catch}
 use Rattle.resolved.specs.Program.{Program, ProcedureEntry, ThrownEntry, procedure_at}
 use Rattle.common.specs.declared.exceptions.TheConstants.{ARITH, BOUNDS, END}
 use Rattle.resolved.specs.Exits.{has_exit, one_exit, index_can_raise, divisor_can_raise, is_division, index_raises, raises, thrown_exits, declared_by, statement_exits, block_exits, list_if}
@@ -226,13 +226,13 @@ module _ (scope : Scope) where
   -- ---- statements, of which each has two more in its block
   mutual
     statement-size : (s : Statement) (p : NamedAtom) (exit_unknowns : ExitUnknowns) (n : ℕ) → size_of (statement_constraints scope p exit_unknowns n s) + 2 ≤ 20 * statement_nodes s + 3 * declared_at scope.program s
-    statement-size (Assign at x e) p exit_unknowns n =
-        let i : size_of (statement_constraints scope p exit_unknowns n (Assign at x e)) ≤ 8 + 4 * expression_nodes e =
+    statement-size (Placed at (Assign x e)) p exit_unknowns n =
+        let i : size_of (statement_constraints scope p exit_unknowns n (Placed at (Assign x e))) ≤ 8 + 4 * expression_nodes e =
         demanding-size at 1 p (value_label scope e) (raise_atoms scope e) (ToVariable scope.number x) exit_unknowns Normal (raises e) (expression_nodes e) (value-length scope e) (raise-length scope e) in
         omega (arith, i)
-    statement-size (Clear at slot) p exit_unknowns n =
+    statement-size (Placed at (Clear slot)) p exit_unknowns n =
         let i : size_of (flow (p ∷ []) (exit_unknowns Normal)) ≤ suc (suc zero) = flow-size (p ∷ []) (exit_unknowns Normal) in omega (arith, i)
-    statement-size (Store at array len index e) p exit_unknowns n =
+    statement-size (Placed at (Store array len index e)) p exit_unknowns n =
         let x : Join = if index_can_raise index len then value_label scope index else raise_atoms scope index in
         let nodes : ℕ = expression_nodes index + expression_nodes e in
         let a : length (value_label scope index) ≤ expression_nodes index = value-length scope index in
@@ -241,11 +241,11 @@ module _ (scope : Scope) where
         let d : length x ≤ expression_nodes index = if-length scope (index_can_raise index len) (value_label scope index) (raise_atoms scope index) (expression_nodes index) a (raise-length scope index) in
         let f : length (raise_atoms scope e) ≤ expression_nodes e = raise-length scope e in
         let g : length (x ++ raise_atoms scope e) ≡ length x + length (raise_atoms scope e) = length-append x (raise_atoms scope e) in
-        let i : size_of (statement_constraints scope p exit_unknowns n (Store at array len index e)) ≤ 8 + 4 * nodes =
+        let i : size_of (statement_constraints scope p exit_unknowns n (Placed at (Store array len index e))) ≤ 8 + 4 * nodes =
         demanding-size at 3 p (value_label scope index ++ value_label scope e) (store_atoms scope len index e) (ToVariable scope.number array) exit_unknowns Normal (raises index ++ raises e ++ index_raises index len) nodes
         (omega (arith, a, b, c)) (omega (arith, d, f, g)) in
         omega (arith, i)
-    statement-size (Receive at channel target) p exit_unknowns n =
+    statement-size (Placed at (Receive channel target)) p exit_unknowns n =
         let q : List NamedAtom = p ∷ named_atoms (one (label_of scope.program (ToChannel channel))) in
         let third : List NamedConstraint = flow q (exit_unknowns Normal) in
         let fourth : List NamedConstraint = flow q (exit_unknowns (Throw END)) in
@@ -256,15 +256,15 @@ module _ (scope : Scope) where
         let s : size_of (second ++ (third ++ fourth)) ≡ size_of second + size_of (third ++ fourth) = size-append second (third ++ fourth) in
         let t : size_of (third ++ fourth) ≡ size_of third + size_of fourth = size-append third fourth in
         omega (arith, i, j, k, s, t)
-    statement-size (Send at channel e) p exit_unknowns n =
-        let i : size_of (statement_constraints scope p exit_unknowns n (Send at channel e)) ≤ 8 + 4 * expression_nodes e =
+    statement-size (Placed at (Send channel e)) p exit_unknowns n =
+        let i : size_of (statement_constraints scope p exit_unknowns n (Placed at (Send channel e))) ≤ 8 + 4 * expression_nodes e =
         demanding-size at 5 p (value_label scope e) (raise_atoms scope e) (ToChannel channel) exit_unknowns Normal (raises e) (expression_nodes e) (value-length scope e) (raise-length scope e) in
         omega (arith, i)
-    statement-size (Call at callee arguments target) p exit_unknowns n =
+    statement-size (Placed at (Call callee arguments target)) p exit_unknowns n =
         let i : size_of (call_constraints scope p exit_unknowns n at callee arguments target) ≤ 17 + (4 * nodes_of arguments + 3 * length (procedure_at scope.program callee).throws) = call-size p exit_unknowns n at callee arguments target in
         let j : nodes_of arguments ≡ sum_by expression_nodes arguments = is_sum_by nodes_of expression_nodes refl (λ x xs. refl) arguments in
         omega (arith, i, j)
-    statement-size (If at e then_block else_block) p exit_unknowns n =
+    statement-size (Placed at (If e then_block else_block)) p exit_unknowns n =
         let pc : NamedAtom = inner_atom n in
         let second : List NamedConstraint = raised_flows (p ∷ named_atoms (raise_atoms scope e)) exit_unknowns (raises e) in
         let third : List NamedConstraint = by_exits (block_exits scope.program then_block) pc exit_unknowns (λ t. block_constraints scope true pc t (suc n) then_block) in
@@ -282,7 +282,7 @@ module _ (scope : Scope) where
         let s : size_of (second ++ (third ++ fourth)) ≡ size_of second + size_of (third ++ fourth) = size-append second (third ++ fourth) in
         let t : size_of (third ++ fourth) ≡ size_of third + size_of fourth = size-append third fourth in
         omega (arith, a, b, c, d, i, j, k, s, t)
-    statement-size (While at loop e body) p exit_unknowns n =
+    statement-size (Placed at (While loop e body)) p exit_unknowns n =
         let pc : NamedAtom = inner_atom n in
         let loop_atom : NamedAtom = renamed Real (label_of scope.program (ToLoop scope.number loop)) in
         let out : List NamedConstraint = flow (pc ∷ []) (exit_unknowns Normal) in
@@ -302,13 +302,13 @@ module _ (scope : Scope) where
         let t : size_of (raising ++ (third ++ fourth)) ≡ size_of raising + size_of (third ++ fourth) = size-append raising (third ++ fourth) in
         let u : size_of (third ++ fourth) ≡ size_of third + 2 = size-append third fourth in
         omega (arith, a, b, c, d, h, i, j, s, t, u)
-    statement-size (Leave at exit) p exit_unknowns n = let i : size_of (flow (p ∷ []) (exit_unknowns exit)) ≤ 2 = flow-size (p ∷ []) (exit_unknowns exit) in omega (arith, i)
-    statement-size (ReturnWith at (Some e)) p exit_unknowns n =
-        let i : size_of (statement_constraints scope p exit_unknowns n (ReturnWith at (Some e))) ≤ 8 + 4 * expression_nodes e =
+    statement-size (Placed at (Leave exit)) p exit_unknowns n = let i : size_of (flow (p ∷ []) (exit_unknowns exit)) ≤ 2 = flow-size (p ∷ []) (exit_unknowns exit) in omega (arith, i)
+    statement-size (Placed at (ReturnWith (Some e))) p exit_unknowns n =
+        let i : size_of (statement_constraints scope p exit_unknowns n (Placed at (ReturnWith (Some e)))) ≤ 8 + 4 * expression_nodes e =
         demanding-size at 10 p (value_label scope e) (raise_atoms scope e) (ToValue scope.number) exit_unknowns Return (raises e) (expression_nodes e) (value-length scope e) (raise-length scope e) in
         omega (arith, i)
-    statement-size (ReturnWith at None) p exit_unknowns n = let i : size_of (flow (p ∷ []) (exit_unknowns Return)) ≤ 2 = flow-size (p ∷ []) (exit_unknowns Return) in omega (arith, i)
-    statement-size (Try at block handlers) p exit_unknowns n =
+    statement-size (Placed at (ReturnWith None)) p exit_unknowns n = let i : size_of (flow (p ∷ []) (exit_unknowns Return)) ≤ 2 = flow-size (p ∷ []) (exit_unknowns Return) in omega (arith, i)
+    statement-size (Placed at (Try block handlers)) p exit_unknowns n =
         let number : ℕ → ℕ = λ x. handler_number handlers n x in
         let inside : ExitUnknowns = in_try number handlers exit_unknowns in
         let first : List NamedConstraint = by_exits (block_exits scope.program block) p inside (λ t. block_constraints scope true p t (n + handler_count handlers) block) in
@@ -319,9 +319,9 @@ module _ (scope : Scope) where
         let j : size_of second ≤ 20 * handlers_nodes handlers + 3 * declared_under scope.program handlers = handlers-size handlers number exit_unknowns ((n + handler_count handlers) + made_by_block block) in
         let s : size_of (first ++ second) ≡ size_of first + size_of second = size-append first second in
         omega (arith, i, j, s)
-    statement-size (Nested at block) p exit_unknowns n =
+    statement-size (Placed at (Nested block)) p exit_unknowns n =
         let within : ℕ = 2 + (20 * block_nodes block + 3 * declared_in scope.program block) in
-        let i : size_of (statement_constraints scope p exit_unknowns n (Nested at block)) ≤ 2 + within =
+        let i : size_of (statement_constraints scope p exit_unknowns n (Placed at (Nested block))) ≤ 2 + within =
         by_exits-size (block_exits scope.program block) p exit_unknowns (λ t. block_constraints scope true p t n block) within (λ t. block-size block true p t n) in
         omega (arith, i)
 

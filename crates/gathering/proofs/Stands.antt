@@ -11,7 +11,7 @@ use Rattle.resolved.specs.declared.statement.Exit.{Exit}
 use Rattle.resolved.specs.declared.statement.Exit.TheVariants.{Normal, Return, Continue, Throw}
 use Rattle.resolved.specs.declared.target.Target.{Target}
 use Rattle.resolved.specs.declared.target.Target.TheVariants.{ToVariable, ToChannel, ToBegin, ToParameter, ToValue, ToLoop}
-use Rattle.resolved.specs.Tree.{Expression, Statement, Assign, Clear, Store, Receive, Send, Call, If, While, Leave, ReturnWith, Try, Nested, Block, Empty, Then, Handlers, NoMore, Catch}
+use Rattle.resolved.specs.Tree.{Expression, Statement, Placed, Assign, Clear, Store, Receive, Send, Call, If, While, Leave, ReturnWith, Try, Nested, Block, Empty, Then, Handlers, NoMore, Catch}
 use Rattle.resolved.specs.Program.{Program}
 use Rattle.common.specs.declared.exceptions.TheConstants.{END}
 use Rattle.resolved.specs.Exits.{has_exit, one_exit, index_raises, raises, thrown_exits, handles, statement_exits, block_exits}
@@ -139,7 +139,7 @@ module _ (cs : List NamedConstraint) where
 
     pub one-call : (scope : Scope) (at callee : ℕ) (arguments : List Expression) (target : Option Variable) (p : NamedAtom) (pc : Join) (exit_unknowns : ExitUnknowns) (n : ℕ) →
         m n ≡ (pc ++ flat_map (raise_label scope) arguments) → Fed cs (inner_atom n ∷ []) (pc ++ flat_map (raise_label scope) arguments) →
-        One (statement_demands scope pc (Call at callee arguments target)) (call_constraints scope p exit_unknowns n at callee arguments target)
+        One (statement_demands scope pc (Placed at (Call callee arguments target))) (call_constraints scope p exit_unknowns n at callee arguments target)
     one-call scope at callee arguments target p pc exit_unknowns n is own_fed =
         let j : Join = pc ++ flat_map (raise_label scope) arguments in
         let own : NamedAtom = inner_atom n in
@@ -171,20 +171,20 @@ module _ (cs : List NamedConstraint) where
       mutual
         pub one-statement : (s : Statement) (p : NamedAtom) (pc : Join) (exit_unknowns : ExitUnknowns) (n : ℕ) → Part scope.program s → Agrees scope m n pc s → Below m (p ∷ []) pc → Fed cs (p ∷ []) pc →
             Within cs (statement_constraints scope p exit_unknowns n s) → One (statement_demands scope pc s) (statement_constraints scope p exit_unknowns n s)
-        one-statement (Assign at x e) p pc exit_unknowns n part agrees below fed within =
+        one-statement (Placed at (Assign x e)) p pc exit_unknowns n part agrees below fed within =
             one-demanding scope at 1 p pc (value_label scope e) ((pc ++ raise_label scope e) ++ value_label scope e) (ToVariable scope.number x)
             (flow (p ∷ named_atoms (raise_atoms scope e)) (exit_unknowns Normal) ++ raised_flows (p ∷ named_atoms (raise_atoms scope e)) exit_unknowns (raises e)) below fed (alike-value scope pc e)
             (one-own (p ∷ named_atoms (raise_atoms scope e)) exit_unknowns Normal (raises e))
-        one-statement (Clear at slot) p pc exit_unknowns n part agrees below fed within =
+        one-statement (Placed at (Clear slot)) p pc exit_unknowns n part agrees below fed within =
             one-append (demand scope.program at 2 pc (ToVariable scope.number (Local slot))) [] (rule_constraint scope at 2 (p ∷ []) (ToVariable scope.number (Local slot)))
             (flow (p ∷ []) (exit_unknowns Normal))
             (one-rule scope at 2 (p ∷ []) pc (ToVariable scope.number (Local slot)) below fed) (one-flow (p ∷ []) (exit_unknowns Normal))
-        one-statement (Store at array len index e) p pc exit_unknowns n part agrees below fed within =
+        one-statement (Placed at (Store array len index e)) p pc exit_unknowns n part agrees below fed within =
             let q : List NamedAtom = p ∷ named_atoms (store_atoms scope len index e) in
             let raised : List ℕ = raises index ++ raises e ++ index_raises index len in
             one-demanding scope at 3 p pc (value_label scope index ++ value_label scope e) ((store_label scope pc len index e ++ value_label scope index) ++ value_label scope e) (ToVariable scope.number array)
             (flow q (exit_unknowns Normal) ++ raised_flows q exit_unknowns raised) below fed (alike-stored scope pc len index e) (one-own q exit_unknowns Normal raised)
-        one-statement (Receive at channel target) p pc exit_unknowns n part agrees below fed within =
+        one-statement (Placed at (Receive channel target)) p pc exit_unknowns n part agrees below fed within =
             let label : Join = one (label_of scope.program (ToChannel channel)) in
             let q : List NamedAtom = p ∷ named_atoms label in
             let out : List NamedConstraint = flow q (exit_unknowns Normal) ++ flow q (exit_unknowns (Throw END)) in
@@ -194,13 +194,13 @@ module _ (cs : List NamedConstraint) where
             (one-target_more scope at 4 q (pc ++ label) target out (pc-below m p pc label (pc ++ label) below (alike-itself (pc ++ label)).0)
             (pc-fed cs p pc label (pc ++ label) fed (alike-itself (pc ++ label)).1)
             (one-append [] [] (flow q (exit_unknowns Normal)) (flow q (exit_unknowns (Throw END))) (one-flow q (exit_unknowns Normal)) (one-flow q (exit_unknowns (Throw END)))))
-        one-statement (Send at channel e) p pc exit_unknowns n part agrees below fed within =
+        one-statement (Placed at (Send channel e)) p pc exit_unknowns n part agrees below fed within =
             one-demanding scope at 5 p pc (value_label scope e) ((pc ++ raise_label scope e) ++ value_label scope e) (ToChannel channel)
             (flow (p ∷ named_atoms (raise_atoms scope e)) (exit_unknowns Normal) ++ raised_flows (p ∷ named_atoms (raise_atoms scope e)) exit_unknowns (raises e)) below fed (alike-value scope pc e)
             (one-own (p ∷ named_atoms (raise_atoms scope e)) exit_unknowns Normal (raises e))
-        one-statement (Call at procedure arguments target) p pc exit_unknowns n part agrees below fed within =
+        one-statement (Placed at (Call procedure arguments target)) p pc exit_unknowns n part agrees below fed within =
             one-call scope at procedure arguments target p pc exit_unknowns n agrees (fed-call cs scope at procedure arguments target p pc exit_unknowns n fed within).0
-        one-statement (If at e then_block else_block) p pc exit_unknowns n part agrees below fed within =
+        one-statement (Placed at (If e then_block else_block)) p pc exit_unknowns n part agrees below fed within =
             let r : Join = raise_label scope e in
             let v : Join = value_label scope e in
             let branch : Join = (pc ++ r) ++ v in
@@ -231,7 +231,7 @@ module _ (cs : List NamedConstraint) where
             (one-append [] no_demands no_one no_walk (one-single (one_exit no_exits) (inner_atom n) exit_unknowns no_exits)
             (one-statements else_block true (inner_atom n) branch (within_single (one_exit no_exits) exit_unknowns) (suc n + made_by_block then_block) part.1 agrees.2 b_below b_fed
             (within-right cs no_one no_walk (within-right cs third fourth branches))))))
-        one-statement (While at loop e body) p pc exit_unknowns n part agrees below fed within =
+        one-statement (Placed at (While loop e body)) p pc exit_unknowns n part agrees below fed within =
             let l : Join = one (label_of scope.program (ToLoop scope.number loop)) in
             let loop_atom : NamedAtom = renamed Real (label_of scope.program (ToLoop scope.number loop)) in
             let r : Join = raise_label scope e in
@@ -269,13 +269,13 @@ module _ (cs : List NamedConstraint) where
             (one-append [] within_body own walked (one-single (one_exit ends) (inner_atom n) (in_loop (suc n) exit_unknowns) ends)
             (one-statements body true (inner_atom n) b (within_single (one_exit ends) (in_loop (suc n) exit_unknowns)) (suc (suc n)) part agrees.2 b_below b_fed (within-right cs own walked in_third)))
             (one-rule scope at 8 (inner_atom (suc n) ∷ []) (x Normal ++ x Continue) (ToLoop scope.number loop) (below-inner m (suc n) (x Normal ++ x Continue) agrees.1) back)))))
-        one-statement (Leave at exit) p pc exit_unknowns n part agrees below fed within = one-flow (p ∷ []) (exit_unknowns exit)
-        one-statement (ReturnWith at (Some e)) p pc exit_unknowns n part agrees below fed within =
+        one-statement (Placed at (Leave exit)) p pc exit_unknowns n part agrees below fed within = one-flow (p ∷ []) (exit_unknowns exit)
+        one-statement (Placed at (ReturnWith (Some e))) p pc exit_unknowns n part agrees below fed within =
             one-demanding scope at 10 p pc (value_label scope e) ((pc ++ raise_label scope e) ++ value_label scope e) (ToValue scope.number)
             (flow (p ∷ named_atoms (raise_atoms scope e)) (exit_unknowns Return) ++ raised_flows (p ∷ named_atoms (raise_atoms scope e)) exit_unknowns (raises e)) below fed (alike-value scope pc e)
             (one-own (p ∷ named_atoms (raise_atoms scope e)) exit_unknowns Return (raises e))
-        one-statement (ReturnWith at None) p pc exit_unknowns n part agrees below fed within = one-flow (p ∷ []) (exit_unknowns Return)
-        one-statement (Try at block handlers) p pc exit_unknowns n part agrees below fed within =
+        one-statement (Placed at (ReturnWith None)) p pc exit_unknowns n part agrees below fed within = one-flow (p ∷ []) (exit_unknowns Return)
+        one-statement (Placed at (Try block handlers)) p pc exit_unknowns n part agrees below fed within =
             let ends : List Exit = block_exits scope.program block in
             let x : ExitLabels = block_exit_labels scope pc block in
             let number : ℕ → ℕ = λ z. handler_number handlers n z in
@@ -291,7 +291,7 @@ module _ (cs : List NamedConstraint) where
             (one-statements block true p pc (within_single (one_exit ends) inside) (n + handler_count handlers) part.0 agrees.1 below fed (within-right cs own walked in_first)))
             (one-handlers handlers number x exit_unknowns ((n + handler_count handlers) + made_by_block block) part.1 agrees.2 agrees.0
             (λ z h. gives (Throw z) (number z) (in_try-taken number handlers exit_unknowns z h)) (within-right cs (own ++ walked) second within))
-        one-statement (Nested at block) p pc exit_unknowns n part agrees below fed within =
+        one-statement (Placed at (Nested block)) p pc exit_unknowns n part agrees below fed within =
             let ends : List Exit = block_exits scope.program block in
             let own : List NamedConstraint = single (one_exit ends) p exit_unknowns ends in
             let walked : List NamedConstraint = block_constraints scope true p (within_single (one_exit ends) exit_unknowns) n block in

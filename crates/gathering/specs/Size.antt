@@ -5,7 +5,7 @@ use Rattle.std.specs.Prelude.{ℕ, suc, ◌+◌, List, [], ◌∷◌, length, su
 use Rattle.lattices.specs.Constraints.{Constraint}
 use Rattle.resolved.specs.declared.target.Target.{Target}
 use Rattle.resolved.specs.declared.target.Target.TheVariants.{ToVariable, ToChannel, ToBegin, ToParameter, ToValue, ToEnd, ToThrown, ToLoop}
-use Rattle.resolved.specs.Tree.{Statement, Assign, Clear, Store, Receive, Send, Call, If, While, Leave, ReturnWith, Try, Nested, Block, Empty, Then, Handlers, NoMore, Catch}
+use Rattle.resolved.specs.Tree.{Statement, Placed, Assign, Clear, Store, Receive, Send, Call, If, While, Leave, ReturnWith, Try, Nested, Block, Empty, Then, Handlers, NoMore, Catch}
 use Rattle.resolved.specs.Program.{Program, ProcedureEntry, procedure_at}
 use Rattle.gathering.specs.Names.{NamedConstraint}
 
@@ -16,18 +16,18 @@ size_of (c ∷ rest) = suc (length c.left) + size_of rest
 
 abbrev mutual
   pub declared_at : Program → Statement → ℕ
-  declared_at program (Assign at x e) = 0
-  declared_at program (Clear at slot) = 0
-  declared_at program (Store at array len index e) = 0
-  declared_at program (Receive at channel target) = 0
-  declared_at program (Send at channel e) = 0
-  declared_at program (Call at callee arguments target) = length (procedure_at program callee).throws
-  declared_at program (If at e then_block else_block) = declared_in program then_block + declared_in program else_block
-  declared_at program (While at loop e body) = declared_in program body
-  declared_at program (Leave at exit) = 0
-  declared_at program (ReturnWith at value) = 0
-  declared_at program (Try at block handlers) = declared_in program block + declared_under program handlers
-  declared_at program (Nested at block) = declared_in program block
+  declared_at program (Placed at (Assign x e)) = 0
+  declared_at program (Placed at (Clear slot)) = 0
+  declared_at program (Placed at (Store array len index e)) = 0
+  declared_at program (Placed at (Receive channel target)) = 0
+  declared_at program (Placed at (Send channel e)) = 0
+  declared_at program (Placed at (Call callee arguments target)) = length (procedure_at program callee).throws
+  declared_at program (Placed at (If e then_block else_block)) = declared_in program then_block + declared_in program else_block
+  declared_at program (Placed at (While loop e body)) = declared_in program body
+  declared_at program (Placed at (Leave exit)) = 0
+  declared_at program (Placed at (ReturnWith value)) = 0
+  declared_at program (Placed at (Try block handlers)) = declared_in program block + declared_under program handlers
+  declared_at program (Placed at (Nested block)) = declared_in program block
 
   pub declared_in : Program → Block → ℕ
   declared_in program Empty = 0

@@ -13,7 +13,7 @@ use Rattle.resolved.specs.declared.statement.Exit.{Exit}
 use Rattle.resolved.specs.declared.statement.Exit.TheVariants.{Normal, Return, Break, Continue, Throw}
 use Rattle.resolved.specs.declared.target.Target.{Target}
 use Rattle.resolved.specs.declared.target.Target.TheVariants.{ToVariable, ToChannel, ToBegin, ToParameter, ToValue, ToEnd, ToThrown, ToLoop}
-use Rattle.resolved.specs.Tree.{Expression, Integer, Logical, Read, Element, Unary, Binary, Short, Statement, Assign, Clear, Store, Receive, Send, Call, If, While, Leave, ReturnWith, Try, Nested, Block, Empty, Then, Handlers, NoMore, Catch}
+use Rattle.resolved.specs.Tree.{Expression, Integer, Logical, Read, Element, Unary, Binary, Short, Statement, Placed, Assign, Clear, Store, Receive, Send, Call, If, While, Leave, ReturnWith, Try, Nested, Block, Empty, Then, Handlers, NoMore, Catch}
 use Rattle.resolved.specs.Program.{Program, ProcedureEntry, ThrownEntry, procedure_at}
 use Rattle.common.specs.declared.exceptions.TheConstants.{ARITH, BOUNDS, END}
 use Rattle.resolved.specs.Exits.{has_exit, one_exit, index_can_raise, divisor_can_raise, is_division, index_raises, raises, thrown_exits, declared_by, handles, statement_exits, block_exits, list_if}
@@ -162,18 +162,18 @@ call_atoms program callee (Throw x) = one (label_of program (ToThrown callee x))
 -- ---- how many inner unknowns are made
 abbrev mutual
   pub made_by_statement : Statement → ℕ
-  made_by_statement (Assign at x e) = 0
-  made_by_statement (Clear at slot) = 0
-  made_by_statement (Store at array length index e) = 0
-  made_by_statement (Receive at channel target) = 0
-  made_by_statement (Send at channel e) = 0
-  made_by_statement (Call at procedure arguments target) = 1
-  made_by_statement (If at e then_block else_block) = suc (made_by_block then_block + made_by_block else_block)
-  made_by_statement (While at loop e body) = suc (suc (made_by_block body))
-  made_by_statement (Leave at exit) = 0
-  made_by_statement (ReturnWith at value) = 0
-  made_by_statement (Try at block handlers) = handler_count handlers + (made_by_block block + made_by_handlers handlers)
-  made_by_statement (Nested at block) = made_by_block block
+  made_by_statement (Placed at (Assign x e)) = 0
+  made_by_statement (Placed at (Clear slot)) = 0
+  made_by_statement (Placed at (Store array length index e)) = 0
+  made_by_statement (Placed at (Receive channel target)) = 0
+  made_by_statement (Placed at (Send channel e)) = 0
+  made_by_statement (Placed at (Call procedure arguments target)) = 1
+  made_by_statement (Placed at (If e then_block else_block)) = suc (made_by_block then_block + made_by_block else_block)
+  made_by_statement (Placed at (While loop e body)) = suc (suc (made_by_block body))
+  made_by_statement (Placed at (Leave exit)) = 0
+  made_by_statement (Placed at (ReturnWith value)) = 0
+  made_by_statement (Placed at (Try block handlers)) = handler_count handlers + (made_by_block block + made_by_handlers handlers)
+  made_by_statement (Placed at (Nested block)) = made_by_block block
 
   pub made_by_block : Block → ℕ
   made_by_block Empty = 0
@@ -216,32 +216,32 @@ call_constraints scope pc exit_unknowns n at callee arguments target =
 abbrev mutual
   -- a statement by what the rule of its form says of its exits
   pub statement_constraints : Scope → (pc : NamedAtom) → ExitUnknowns → ℕ → Statement → List NamedConstraint
-  statement_constraints scope pc exit_unknowns n (Assign at x e) =
+  statement_constraints scope pc exit_unknowns n (Placed at (Assign x e)) =
       let q : List NamedAtom = pc ∷ named_atoms (raise_atoms scope e) in
       rule_constraint scope at 1 (pc ∷ named_atoms (value_label scope e)) (ToVariable scope.number x)
       ++ (flow q (exit_unknowns Normal) ++ raised_flows q exit_unknowns (raises e))
-  statement_constraints scope pc exit_unknowns n (Clear at slot) =
+  statement_constraints scope pc exit_unknowns n (Placed at (Clear slot)) =
       rule_constraint scope at 2 (pc ∷ []) (ToVariable scope.number (Local slot)) ++ flow (pc ∷ []) (exit_unknowns Normal)
-  statement_constraints scope pc exit_unknowns n (Store at array length index e) =
+  statement_constraints scope pc exit_unknowns n (Placed at (Store array length index e)) =
       let q : List NamedAtom = pc ∷ named_atoms (store_atoms scope length index e) in
       rule_constraint scope at 3 (pc ∷ named_atoms (value_label scope index ++ value_label scope e)) (ToVariable scope.number array)
       ++ (flow q (exit_unknowns Normal) ++ raised_flows q exit_unknowns (raises index ++ raises e ++ index_raises index length))
-  statement_constraints scope pc exit_unknowns n (Receive at channel target) =
+  statement_constraints scope pc exit_unknowns n (Placed at (Receive channel target)) =
       let q : List NamedAtom = pc ∷ named_atoms (one (label_of scope.program (ToChannel channel))) in
       rule_constraint scope at 4 (pc ∷ []) (ToChannel channel)
       ++ (target_constraint scope at 4 q target ++ (flow q (exit_unknowns Normal) ++ flow q (exit_unknowns (Throw END))))
-  statement_constraints scope pc exit_unknowns n (Send at channel e) =
+  statement_constraints scope pc exit_unknowns n (Placed at (Send channel e)) =
       let q : List NamedAtom = pc ∷ named_atoms (raise_atoms scope e) in
       rule_constraint scope at 5 (pc ∷ named_atoms (value_label scope e)) (ToChannel channel)
       ++ (flow q (exit_unknowns Normal) ++ raised_flows q exit_unknowns (raises e))
-  statement_constraints scope pc exit_unknowns n (Call at procedure arguments target) =
+  statement_constraints scope pc exit_unknowns n (Placed at (Call procedure arguments target)) =
       call_constraints scope pc exit_unknowns n at procedure arguments target
-  statement_constraints scope pc exit_unknowns n (If at e then_block else_block) =
+  statement_constraints scope pc exit_unknowns n (Placed at (If e then_block else_block)) =
       inner_constraint (pc ∷ named_atoms (value_label scope e)) n
       ++ (raised_flows (pc ∷ named_atoms (raise_atoms scope e)) exit_unknowns (raises e)
       ++ (by_exits (block_exits scope.program then_block) (inner_atom n) exit_unknowns (λ t. block_constraints scope true (inner_atom n) t (suc n) then_block)
       ++ by_exits (block_exits scope.program else_block) (inner_atom n) exit_unknowns (λ t. block_constraints scope true (inner_atom n) t (suc n + made_by_block then_block) else_block)))
-  statement_constraints scope pc exit_unknowns n (While at loop e body) =
+  statement_constraints scope pc exit_unknowns n (Placed at (While loop e body)) =
       let loop_atom : NamedAtom = renamed Real (label_of scope.program (ToLoop scope.number loop)) in
       rule_constraint scope at 8 (pc ∷ []) (ToLoop scope.number loop)
       ++ (inner_constraint (loop_atom ∷ named_atoms (value_label scope e)) n
@@ -249,17 +249,18 @@ abbrev mutual
       ++ (raised_flows (loop_atom ∷ named_atoms (raise_atoms scope e)) exit_unknowns (raises e)
       ++ (by_exits (block_exits scope.program body) (inner_atom n) (in_loop (suc n) exit_unknowns) (λ t. block_constraints scope true (inner_atom n) t (suc (suc n)) body)
       ++ rule_constraint scope at 8 (inner_atom (suc n) ∷ []) (ToLoop scope.number loop)))))
-  statement_constraints scope pc exit_unknowns n (Leave at exit) = flow (pc ∷ []) (exit_unknowns exit)
-  statement_constraints scope pc exit_unknowns n (ReturnWith at None) = flow (pc ∷ []) (exit_unknowns Return)
-  statement_constraints scope pc exit_unknowns n (ReturnWith at (Some e)) =
+  statement_constraints scope pc exit_unknowns n (Placed at (Leave exit)) = flow (pc ∷ []) (exit_unknowns exit)
+  statement_constraints scope pc exit_unknowns n (Placed at (ReturnWith None)) = flow (pc ∷ []) (exit_unknowns Return)
+  statement_constraints scope pc exit_unknowns n (Placed at (ReturnWith (Some e))) =
       let q : List NamedAtom = pc ∷ named_atoms (raise_atoms scope e) in
       rule_constraint scope at 10 (pc ∷ named_atoms (value_label scope e)) (ToValue scope.number)
       ++ (flow q (exit_unknowns Return) ++ raised_flows q exit_unknowns (raises e))
-  statement_constraints scope pc exit_unknowns n (Try at block handlers) =
+  statement_constraints scope pc exit_unknowns n (Placed at (Try block handlers)) =
       let number : ℕ → ℕ = λ x. handler_number handlers n x in
       by_exits (block_exits scope.program block) pc (in_try number handlers exit_unknowns) (λ t. block_constraints scope true pc t (n + handler_count handlers) block)
       ++ handlers_constraints scope number exit_unknowns ((n + handler_count handlers) + made_by_block block) handlers
-  statement_constraints scope pc exit_unknowns n (Nested at block) = by_exits (block_exits scope.program block) pc exit_unknowns (λ t. block_constraints scope true pc t n block)
+  statement_constraints scope pc exit_unknowns n (Placed at (Nested block)) =
+      by_exits (block_exits scope.program block) pc exit_unknowns (λ t. block_constraints scope true pc t n block)
 
   -- the statements of a block that is reached or not, by what the rule of blocks says of its exits
   pub block_constraints : Scope → (reached : Bool) → (pc : NamedAtom) → ExitUnknowns → ℕ → Block → List NamedConstraint

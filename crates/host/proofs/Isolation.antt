@@ -7,7 +7,7 @@ use Rattle.modules.specs.Format.{module_file}
 use Rattle.modules.specs.Machine.{sent_after}
 use Rattle.channels.specs.World.{numbers_of_channel}
 use Rattle.modules.specs.Isolated.{module_view}
-use Rattle.modules.proofs.Isolated.{isolated-views}
+use Rattle.modules.proofs.Isolated.{isolated-by_views}
 use Rattle.host.specs.Laws.{SessionsAreFreshRuns, SessionsCanBeOpened, SessionsEndAsReported, SessionsAreIsolated, SessionsStandAsReported, SessionsGoOn, SessionsShowOn, TranscriptsJoin, StepsAddUp, IdsGoUp, steps_of}
 use Rattle.host.specs.Meaning.{hierarchy_under}
 use Rattle.host.proofs.Lives.{shown_fresh, ended_fresh, opened_can, stands, goes_on, shows_on, joined, steps_add_up, ids_go_up}
@@ -35,7 +35,7 @@ module _ (one : (m n : ModuleContents) (bytes : List ℕ) → Spells module_file
       subst (λ xs. OneIsPrefix xs others) (sym (fresh_runs bytes first under p pairs m spelled shown))
       (subst (λ ys. OneIsPrefix (module_view (hierarchy_under under m) m p (sent_after m (numbers_of_channel m first) i)) ys)
       (sym (fresh_runs bytes second under p others m spelled other_shown))
-      (isolated-views (hierarchy_under under m) m isolated_module p (numbers_of_channel m first) (numbers_of_channel m second) agree i j))
+      ((isolated-by_views (hierarchy_under under m) m).0 isolated_module p (numbers_of_channel m first) (numbers_of_channel m second) agree i j))
 
   pub stand_as_reported : SessionsStandAsReported
   stand_as_reported bytes world under m spelled limit old events answers new by id opened opens opened_so session there =

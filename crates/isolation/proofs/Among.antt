@@ -18,7 +18,7 @@ use Rattle.common.specs.declared.operator.Operator.TheVariants.{Compute, Compare
 use Rattle.common.specs.declared.operator.Arithmetic.TheVariants.{Add, Subtract, Multiply, Divide, Remainder, Bits}
 use Rattle.resolved.specs.declared.statement.Exit.{Exit}
 use Rattle.resolved.specs.declared.statement.Exit.TheVariants.{Normal, Return, Break, Continue, Throw}
-use Rattle.resolved.specs.Tree.{Expression, Integer, Logical, Read, Element, Unary, Binary, Short, Statement, Assign, Clear, Store, Receive, Send, Call, If, While, Leave, ReturnWith, Try, Nested, Block, Empty, Then, Handlers, NoMore, Catch}
+use Rattle.resolved.specs.Tree.{Expression, Integer, Logical, Read, Element, Unary, Binary, Short, Statement, Placed, Assign, Clear, Store, Receive, Send, Call, If, While, Leave, ReturnWith, Try, Nested, Block, Empty, Then, Handlers, NoMore, Catch}
 use Rattle.resolved.specs.Program.{Program, procedure_at}
 use Rattle.common.specs.Operators.{wrapped}
 use Rattle.common.specs.Values.{truth_in, number_in}
@@ -318,12 +318,12 @@ handler-among ends false later x y P passing h rest = rest passing
 mutual
   pub statement-among : (statement : Statement) (program : Program) (calls : Calls) (k : ℕ) → CallsAmong program calls →
       (s : SourceState) → Among (statement_exits program statement) (statement_meaning calls k statement s)
-  statement-among (Assign at x e) program calls k h s =
+  statement-among (Placed at (Assign x e)) program calls k h s =
       among-evaluated (raises e) (Normal ∷ thrown_exits (raises e)) (value_of s e) s (λ v. normally (assigned s x v)) (expression-raises s e)
       (in_rest Normal (thrown_exits (raises e))) (λ v f.
       among-first Normal (thrown_exits (raises e)) None (assigned s x v))
-  statement-among (Clear at slot) program calls k h s = among-first Normal [] None (cleared s slot)
-  statement-among (Store at array len index e) program calls k h s =
+  statement-among (Placed at (Clear slot)) program calls k h s = among-first Normal [] None (cleared s slot)
+  statement-among (Placed at (Store array len index e)) program calls k h s =
       let xs : List ℕ = raises index ++ raises e ++ index_raises index len in
       among-evaluated (raises index) (Normal ∷ thrown_exits xs) (value_of s index) s _ (expression-raises s index)
       (λ exit f. in_rest Normal (thrown_exits xs) exit (thrown-left (raises index ++ raises e) (index_raises index len) exit
@@ -335,12 +335,12 @@ mutual
       (raises-checked_index s index len v f)
       (λ exit i. in_rest Normal (thrown_exits xs) exit (thrown-right (raises index ++ raises e) (index_raises index len) exit i)) (λ i j.
       among-first Normal (thrown_exits xs) None (stored s array i w))))
-  statement-among (Receive at channel target) program calls k h s = among-received (s.inputs channel) channel target s
-  statement-among (Send at channel e) program calls k h s =
+  statement-among (Placed at (Receive channel target)) program calls k h s = among-received (s.inputs channel) channel target s
+  statement-among (Placed at (Send channel e)) program calls k h s =
       among-evaluated (raises e) (Normal ∷ thrown_exits (raises e)) (value_of s e) s (λ v. normally (sending channel v s))
       (expression-raises s e) (in_rest Normal (thrown_exits (raises e))) (λ v f.
       among-first Normal (thrown_exits (raises e)) None (sending channel v s))
-  statement-among (Call at procedure arguments target) program calls k h s =
+  statement-among (Placed at (Call procedure arguments target)) program calls k h s =
       let declared : List ℕ = declared_by (procedure_at program procedure).throws in
       let xs : List ℕ = flat_map raises arguments ++ declared in
       among-evaluated (flat_map raises arguments) (Normal ∷ thrown_exits xs) (values_of s arguments) s
@@ -349,7 +349,7 @@ mutual
       among-returned_to (thrown_exits xs) target (calls procedure vs s)
       (among-more (Normal ∷ thrown_exits declared) (Normal ∷ thrown_exits xs) (calls procedure vs s)
       (λ exit g. call-more declared xs exit (thrown-right (flat_map raises arguments) declared) g) (h procedure vs s)))
-  statement-among (If at e then_block else_block) program calls k h s =
+  statement-among (Placed at (If e then_block else_block)) program calls k h s =
       let yes_exits : List Exit = block_exits program then_block in
       let no_exits : List Exit = block_exits program else_block in
       among-evaluated (raises e) (thrown_exits (raises e) ++ yes_exits ++ no_exits) (value_of s e) s
@@ -360,23 +360,23 @@ mutual
       (among-left (thrown_exits (raises e) ++ yes_exits) no_exits (block_meaning calls k then_block s)
       (among-right (thrown_exits (raises e)) yes_exits (block_meaning calls k then_block s) (block-among then_block program calls k h s)))
       (among-right (thrown_exits (raises e) ++ yes_exits) no_exits (block_meaning calls k else_block s) (block-among else_block program calls k h s)))
-  statement-among (While at loop e body) program calls k h s =
+  statement-among (Placed at (While loop e body)) program calls k h s =
       among-fuel k (raises e) (block_exits program body) (λ t. value_of t e) (block_meaning calls k body) (λ t. expression-raises t e)
       (block-among body program calls k h) s
-  statement-among (Leave at exit) program calls k h s = among-first exit [] None s
-  statement-among (ReturnWith at None) program calls k h s = among-first Return [] None s
-  statement-among (ReturnWith at (Some e)) program calls k h s =
+  statement-among (Placed at (Leave exit)) program calls k h s = among-first exit [] None s
+  statement-among (Placed at (ReturnWith None)) program calls k h s = among-first Return [] None s
+  statement-among (Placed at (ReturnWith (Some e))) program calls k h s =
       among-evaluated (raises e) (Return ∷ thrown_exits (raises e)) (value_of s e) s (λ v. Ended Return (Some v) s) (expression-raises s e)
       (in_rest Return (thrown_exits (raises e))) (λ v f.
       among-first Return (thrown_exits (raises e)) (Some v) s)
-  statement-among (Try at block handlers) program calls k h s =
+  statement-among (Placed at (Try block handlers)) program calls k h s =
       let ends : List Exit = block_exits program block in
       among-caught handlers ends (handlers_exits program handlers) (block_meaning calls k block s) (handlers_meaning calls k handlers)
       (block-among block program calls k h s) (λ x t f.
       handlers-among handlers program calls k h (filter (passes handlers) ends ++ handlers_exits program handlers) x t
       (λ none. try-passing handlers ends (handlers_exits program handlers) (Throw x) (rw none refl) f)
       (λ exit g. any-right (same_exit exit) (filter (passes handlers) ends) (handlers_exits program handlers) g))
-  statement-among (Nested at block) program calls k h s = block-among block program calls k h s
+  statement-among (Placed at (Nested block)) program calls k h s = block-among block program calls k h s
 
   pub block-among : (block : Block) (program : Program) (calls : Calls) (k : ℕ) → CallsAmong program calls → (s : SourceState) →
       Among (block_exits program block) (block_meaning calls k block s)

@@ -13,7 +13,7 @@ use Rattle.common.specs.declared.value.Value.{Value}
 use Rattle.common.specs.declared.value.Value.TheVariants.{Int as Number}
 use Rattle.resolved.specs.declared.statement.Exit.{Exit}
 use Rattle.resolved.specs.declared.statement.Exit.TheVariants.{Normal, Return, Break, Continue, Throw}
-use Rattle.resolved.specs.Tree.{Expression, Statement, Assign, Clear, Store, Receive, Send, Call, If, While, Leave, ReturnWith, Try, Nested, Block, Empty, Then, Handlers, NoMore, Catch}
+use Rattle.resolved.specs.Tree.{Expression, Statement, Placed, Assign, Clear, Store, Receive, Send, Call, If, While, Leave, ReturnWith, Try, Nested, Block, Empty, Then, Handlers, NoMore, Catch}
 use Rattle.resolved.specs.Program.{Program, ProcedureEntry, procedure_at}
 use Rattle.common.specs.Values.{truth_in}
 use Rattle.resolved.specs.Value.{Raises, checked_index}
@@ -149,27 +149,27 @@ unread-above reader a b flow unread = go (reader.reads (one b)) refl
 -- where the program-counter label of a statement is not read, neither is its own
 pub own-unread : {h : PrincipalHierarchy} {labelling : Labelling} (reader : Reader h labelling) (scope : Scope) (pc : Join) (statement : Statement) →
     FitsDemands h labelling (statement_demands scope pc statement) → reader.reads pc ≡ false → reader.reads (own_label scope pc statement) ≡ false
-own-unread reader scope pc (Assign at x e) fits unread = unread-left reader pc (raise_label scope e) unread
-own-unread reader scope pc (Clear at slot) fits unread = unread
-own-unread reader scope pc (Store at array len index e) fits unread =
+own-unread reader scope pc (Placed at (Assign x e)) fits unread = unread-left reader pc (raise_label scope e) unread
+own-unread reader scope pc (Placed at (Clear slot)) fits unread = unread
+own-unread reader scope pc (Placed at (Store array len index e)) fits unread =
     unread-left reader (pc ++ raise_label scope index ++ raise_label scope e) (list_if (index_can_raise index len) (value_label scope index))
     (unread-left reader (pc ++ raise_label scope index) (raise_label scope e) (unread-left reader pc (raise_label scope index) unread))
-own-unread reader scope pc (Receive at channel target) fits unread = unread-left reader pc (one (label_of scope.program (ToChannel channel))) unread
-own-unread reader scope pc (Send at channel e) fits unread = unread-left reader pc (raise_label scope e) unread
-own-unread reader scope pc (Call at f arguments target) fits unread = unread-left reader pc (flat_map (raise_label scope) arguments) unread
-own-unread reader scope pc (If at e then_block else_block) fits unread = unread-left reader pc (raise_label scope e) unread
-own-unread {h} {labelling} reader scope pc (While at loop e body) fits unread =
+own-unread reader scope pc (Placed at (Receive channel target)) fits unread = unread-left reader pc (one (label_of scope.program (ToChannel channel))) unread
+own-unread reader scope pc (Placed at (Send channel e)) fits unread = unread-left reader pc (raise_label scope e) unread
+own-unread reader scope pc (Placed at (Call f arguments target)) fits unread = unread-left reader pc (flat_map (raise_label scope) arguments) unread
+own-unread reader scope pc (Placed at (If e then_block else_block)) fits unread = unread-left reader pc (raise_label scope e) unread
+own-unread {h} {labelling} reader scope pc (Placed at (While loop e body)) fits unread =
     let l : Join = one (label_of scope.program (ToLoop scope.number loop)) in
-    let b : Join = own_label scope pc (While at loop e body) ++ value_label scope e in
+    let b : Join = own_label scope pc (Placed at (While loop e body)) ++ value_label scope e in
     let x : ExitLabels = block_exit_labels scope b body in
     unread-left reader l (raise_label scope e)
     (unread-demand reader scope.program at 8 pc (ToLoop scope.number loop) (fits-left h labelling (demand scope.program at 8 pc (ToLoop scope.number loop)) (block_demands scope b body)
     (fits-left h labelling (demand scope.program at 8 pc (ToLoop scope.number loop) ++ block_demands scope b body) (demand scope.program at 8 (x Normal ++ x Continue) (ToLoop scope.number loop)) fits)) unread)
-own-unread reader scope pc (Leave at exit) fits unread = unread
-own-unread reader scope pc (ReturnWith at None) fits unread = unread
-own-unread reader scope pc (ReturnWith at (Some e)) fits unread = unread-left reader pc (raise_label scope e) unread
-own-unread reader scope pc (Try at block handlers) fits unread = unread
-own-unread reader scope pc (Nested at block) fits unread = unread
+own-unread reader scope pc (Placed at (Leave exit)) fits unread = unread
+own-unread reader scope pc (Placed at (ReturnWith None)) fits unread = unread
+own-unread reader scope pc (Placed at (ReturnWith (Some e))) fits unread = unread-left reader pc (raise_label scope e) unread
+own-unread reader scope pc (Placed at (Try block handlers)) fits unread = unread
+own-unread reader scope pc (Placed at (Nested block)) fits unread = unread
 
 -- the exits of a loop by those of its body
 pub loop-read : {h : PrincipalHierarchy} {labelling : Labelling} (reader : Reader h labelling) (raised : ExitLabels) (b : Join) (x : ExitLabels) →
@@ -213,25 +213,25 @@ module _ (h : PrincipalHierarchy) (labelling : Labelling) (reader : Reader h lab
         reader.reads (own_label scope pc statement) ≡ false → (s : SourceState) →
         Unseen (view_of reader scope) (reads_result reader (here scope)) (read_exits reader (statement_rule scope pc statement)) s
         (statement_meaning calls k statement s)
-    statement-unseen (Assign at x e) pc fits unread s =
+    statement-unseen (Placed at (Assign x e)) pc fits unread s =
         let view = view_of reader scope in
         let value = reads_result reader (here scope) in
-        let q = own_label scope pc (Assign at x e) in
-        let exits = read_exits reader (statement_rule scope pc (Assign at x e)) in
+        let q = own_label scope pc (Placed at (Assign x e)) in
+        let exits = read_exits reader (statement_rule scope pc (Placed at (Assign x e))) in
         let unread_x : reader.reads (variable_label scope x) ≡ false = unread-demand reader scope.program at 1 (q ++ value_label scope e)
         (ToVariable scope.number x) fits (unread-left reader q (value_label scope e) unread) in
         unseen-evaluated view value exits s (value_of s e) (λ v. normally (assigned s x v)) (λ y f. unread) (λ v f.
         record { agree = agree-unread view s x (v ∷ []) unread_x; hidden = hidden_exit Normal (assigned s x v) unread })
-    statement-unseen (Clear at slot) pc fits unread s =
+    statement-unseen (Placed at (Clear slot)) pc fits unread s =
         record {
           agree = agree-unread (view_of reader scope) s (Local slot) _ (unread-demand reader scope.program at 2 pc (ToVariable scope.number (Local slot)) fits unread);
           hidden = hidden_exit Normal (cleared s slot) unread;
         }
-    statement-unseen (Store at array len index e) pc fits unread s =
+    statement-unseen (Placed at (Store array len index e)) pc fits unread s =
         let view = view_of reader scope in
         let value = reads_result reader (here scope) in
-        let q = own_label scope pc (Store at array len index e) in
-        let exits = read_exits reader (statement_rule scope pc (Store at array len index e)) in
+        let q = own_label scope pc (Placed at (Store array len index e)) in
+        let exits = read_exits reader (statement_rule scope pc (Placed at (Store array len index e))) in
         let unread_array : reader.reads (variable_label scope array) ≡ false = unread-demand reader scope.program at 3
         (q ++ value_label scope index ++ value_label scope e) (ToVariable scope.number array) fits
         (unread-left reader (q ++ value_label scope index) (value_label scope e) (unread-left reader q (value_label scope index) unread)) in
@@ -239,29 +239,29 @@ module _ (h : PrincipalHierarchy) (labelling : Labelling) (reader : Reader h lab
         unseen-evaluated view value exits s (value_of s e) _ (λ y g. unread) (λ w g.
         unseen-evaluated view value exits s (checked_index v len) (λ i. normally (stored s array i w)) (λ y g. unread) (λ i j.
         record { agree = agree-unread view s array _ unread_array; hidden = hidden_exit Normal (stored s array i w) unread })))
-    statement-unseen (Receive at channel target) pc fits unread s =
+    statement-unseen (Placed at (Receive channel target)) pc fits unread s =
         let view = view_of reader scope in
         let value = reads_result reader (here scope) in
-        let q = own_label scope pc (Receive at channel target) in
-        let exits = read_exits reader (statement_rule scope pc (Receive at channel target)) in
+        let q = own_label scope pc (Placed at (Receive channel target)) in
+        let exits = read_exits reader (statement_rule scope pc (Placed at (Receive channel target))) in
         unseen-received view value exits channel target s (s.inputs channel) (λ exit. unread)
         (sym (reader.written (channel_label scope.program channel)) ∙ unread-above reader pc (label_of scope.program (ToChannel channel)) (fits-one h labelling scope.program at 4 pc (ToChannel channel) (fits-left h labelling (demand scope.program at 4 pc (ToChannel channel)) (target_demand scope at 4 q target) fits)) unread)
         (unread-target reader scope at 4 q target (fits-right h labelling (demand scope.program at 4 pc (ToChannel channel)) (target_demand scope at 4 q target) fits) unread)
-    statement-unseen (Send at channel e) pc fits unread s =
+    statement-unseen (Placed at (Send channel e)) pc fits unread s =
         let view = view_of reader scope in
         let value = reads_result reader (here scope) in
-        let q = own_label scope pc (Send at channel e) in
-        let exits = read_exits reader (statement_rule scope pc (Send at channel e)) in
+        let q = own_label scope pc (Placed at (Send channel e)) in
+        let exits = read_exits reader (statement_rule scope pc (Placed at (Send channel e))) in
         let unread_channel : reader.label (channel_label scope.program channel) ≡ false = sym (reader.written _) ∙ unread-demand reader scope.program at 5
         (q ++ value_label scope e) (ToChannel channel) fits (unread-left reader q (value_label scope e) unread) in
         unseen-evaluated view value exits s (value_of s e) (λ v. normally (sending channel v s)) (λ y f. unread) (λ v f.
         record { agree = agree-unread_sending view s channel v unread_channel; hidden = hidden_exit Normal (sending channel v s) unread })
-    statement-unseen (Call at f arguments target) pc fits unread s =
+    statement-unseen (Placed at (Call f arguments target)) pc fits unread s =
         let view = view_of reader scope in
         let value = reads_result reader (here scope) in
-        let q = own_label scope pc (Call at f arguments target) in
+        let q = own_label scope pc (Placed at (Call f arguments target)) in
         let callee = procedure_at scope.program f in
-        let exits = read_exits reader (statement_rule scope pc (Call at f arguments target)) in
+        let exits = read_exits reader (statement_rule scope pc (Placed at (Call f arguments target))) in
         let ds = argument_demands scope at q f 0 arguments in
         let ts = target_demand scope at 6 (call_exit_labels scope.program f q Normal ++ one (label_of scope.program (ToValue f))) target in
         let front = fits-left h labelling (demand scope.program at 6 q (ToBegin f) ++ ds) ts fits in
@@ -275,13 +275,13 @@ module _ (h : PrincipalHierarchy) (labelling : Labelling) (reader : Reader h lab
         (λ m. unread-target reader scope at 6 (call_exit_labels scope.program f q Normal ++ one (label_of scope.program (ToValue f))) target
         (fits-right h labelling (demand scope.program at 6 q (ToBegin f) ++ ds) ts fits)
         (unread-left reader (call_exit_labels scope.program f q Normal) (one (label_of scope.program (ToValue f))) (each Normal)))))
-    statement-unseen (If at e then_block else_block) pc fits unread s =
+    statement-unseen (Placed at (If e then_block else_block)) pc fits unread s =
         let view = view_of reader scope in
         let value = reads_result reader (here scope) in
-        let q : Join = own_label scope pc (If at e then_block else_block) in
+        let q : Join = own_label scope pc (Placed at (If e then_block else_block)) in
         let b : Join = q ++ value_label scope e in
         let unread_b : reader.reads b ≡ false = unread-left reader q (value_label scope e) unread in
-        let exits = read_exits reader (statement_rule scope pc (If at e then_block else_block)) in
+        let exits = read_exits reader (statement_rule scope pc (Placed at (If e then_block else_block))) in
         let yes_exits = block_exits scope.program then_block in
         let no_exits = block_exits scope.program else_block in
         let yes_exit_labels : ExitLabels = at_exits yes_exits b (block_rule scope b then_block) in
@@ -302,16 +302,16 @@ module _ (h : PrincipalHierarchy) (labelling : Labelling) (reader : Reader h lab
         (block-among else_block scope.program calls k confines.among s)
         (block-unseen else_block b (fits-right h labelling (block_demands scope b then_block) (block_demands scope b else_block) fits) unread_b s))
         (λ exit m. unread-right reader (raised_exit_labels e q exit ++ yes_exit_labels exit) (no_exit_labels exit) m)))
-    statement-unseen (While at loop e body) pc fits unread s =
+    statement-unseen (Placed at (While loop e body)) pc fits unread s =
         let view = view_of reader scope in
         let value = reads_result reader (here scope) in
         let l : Join = one (label_of scope.program (ToLoop scope.number loop)) in
-        let q : Join = own_label scope pc (While at loop e body) in
+        let q : Join = own_label scope pc (Placed at (While loop e body)) in
         let b : Join = q ++ value_label scope e in
         let unread_b : reader.reads b ≡ false = unread-left reader q (value_label scope e) unread in
         let ends = block_exits scope.program body in
         let x : ExitLabels = at_exits ends b (block_rule scope b body) in
-        let exits = read_exits reader (statement_rule scope pc (While at loop e body)) in
+        let exits = read_exits reader (statement_rule scope pc (Placed at (While loop e body))) in
         let front = fits-left h labelling (demand scope.program at 8 pc (ToLoop scope.number loop) ++ block_demands scope b body) (demand scope.program at 8 (x Normal ++ x Continue) (ToLoop scope.number loop)) fits in
         unseen-fuel view value (read_exits reader x) exits k (λ t. value_of t e) (block_meaning calls k body)
         (λ t y f. unread-left reader (raised_exit_labels e q (Throw y)) (loop_exit_labels b x (Throw y)) (unread-raised reader t e q y f unread))
@@ -320,17 +320,17 @@ module _ (h : PrincipalHierarchy) (labelling : Labelling) (reader : Reader h lab
         (λ t. unseen-closed reader view value ends b (block_rule scope b body) t (block_meaning calls k body t) unread_b
         (block-among body scope.program calls k confines.among t)
         (block-unseen body b (fits-right h labelling (demand scope.program at 8 pc (ToLoop scope.number loop)) (block_demands scope b body) front) unread_b t)) s
-    statement-unseen (Leave at exit) pc fits unread s =
+    statement-unseen (Placed at (Leave exit)) pc fits unread s =
         unseen-end (view_of reader scope) (reads_result reader (here scope))
-        (read_exits reader (statement_rule scope pc (Leave at exit))) s exit unread
-    statement-unseen (ReturnWith at None) pc fits unread s =
+        (read_exits reader (statement_rule scope pc (Placed at (Leave exit)))) s exit unread
+    statement-unseen (Placed at (ReturnWith None)) pc fits unread s =
         unseen-end (view_of reader scope) (reads_result reader (here scope))
-        (read_exits reader (statement_rule scope pc (ReturnWith at None))) s Return unread
-    statement-unseen (ReturnWith at (Some e)) pc fits unread s =
+        (read_exits reader (statement_rule scope pc (Placed at (ReturnWith None)))) s Return unread
+    statement-unseen (Placed at (ReturnWith (Some e))) pc fits unread s =
         let view = view_of reader scope in
         let value = reads_result reader (here scope) in
-        let q = own_label scope pc (ReturnWith at (Some e)) in
-        let exits = read_exits reader (statement_rule scope pc (ReturnWith at (Some e))) in
+        let q = own_label scope pc (Placed at (ReturnWith (Some e))) in
+        let exits = read_exits reader (statement_rule scope pc (Placed at (ReturnWith (Some e)))) in
         let unread_result : value ≡ false = sym (reader.written _) ∙ unread-demand reader scope.program at 10 (q ++ value_label scope e) (ToValue scope.number) fits
         (unread-left reader q (value_label scope e) unread) in
         unseen-evaluated view value exits s (value_of s e) (λ v. Ended Return (Some v) s) (λ y f. unread) (λ v f.
@@ -339,12 +339,12 @@ module _ (h : PrincipalHierarchy) (labelling : Labelling) (reader : Reader h lab
           hidden = hidden_return (Some v) s unread
               (λ i. let j : true ≡ false = sym i ∙ unread_result in absurd (cc));
         })
-    statement-unseen (Try at block handlers) pc fits unread s =
+    statement-unseen (Placed at (Try block handlers)) pc fits unread s =
         let view = view_of reader scope in
         let value = reads_result reader (here scope) in
         let ends = block_exits scope.program block in
         let x : ExitLabels = at_exits ends pc (block_rule scope pc block) in
-        let exits = read_exits reader (statement_rule scope pc (Try at block handlers)) in
+        let exits = read_exits reader (statement_rule scope pc (Placed at (Try block handlers))) in
         let inner = unseen-closed reader view value ends pc (block_rule scope pc block) s (block_meaning calls k block s) unread
         (block-among block scope.program calls k confines.among s)
         (block-unseen block pc (fits-left h labelling (block_demands scope pc block) (handlers_demands scope x handlers) fits) unread s) in
@@ -358,7 +358,7 @@ module _ (h : PrincipalHierarchy) (labelling : Labelling) (reader : Reader h lab
         (λ y t m. handlers-unseen handlers x (fits-right h labelling (block_demands scope pc block) (handlers_demands scope x handlers) fits) y t m exits
         (λ exit n. unread-right reader (list_if (passes handlers exit) (x exit)) (handlers_rule scope x handlers exit) n)
         (λ none. others (Throw y) (rw none refl) m)))
-    statement-unseen (Nested at block) pc fits unread s =
+    statement-unseen (Placed at (Nested block)) pc fits unread s =
         unseen-closed reader (view_of reader scope) (reads_result reader (here scope)) (block_exits scope.program block) pc
         (block_rule scope pc block) s (block_meaning calls k block s) unread
         (block-among block scope.program calls k confines.among s)

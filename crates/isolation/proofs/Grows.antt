@@ -10,7 +10,7 @@ use Rattle.resolved.specs.declared.expression.Variable.TheVariants.{Global, Loca
 use Rattle.common.specs.declared.value.Value.{Value}
 use Rattle.common.specs.declared.value.Value.TheVariants.{Int as Number}
 use Rattle.resolved.specs.declared.statement.Exit.TheVariants.{Normal, Return, Break, Continue, Throw}
-use Rattle.resolved.specs.Tree.{Statement, Assign, Clear, Store, Receive, Send, Call, If, While, Leave, ReturnWith, Try, Nested, Block, Empty, Then, Handlers, NoMore, Catch}
+use Rattle.resolved.specs.Tree.{Statement, Placed, Assign, Clear, Store, Receive, Send, Call, If, While, Leave, ReturnWith, Try, Nested, Block, Empty, Then, Handlers, NoMore, Catch}
 use Rattle.resolved.specs.Program.{Program, procedure_at}
 use Rattle.common.specs.Values.{number_in, truth_in}
 use Rattle.resolved.specs.Value.{Evaluated, Yields, Raises, checked_index}
@@ -121,35 +121,35 @@ CallsGrow calls = (f : ℕ) (vs : List Value) (s : SourceState) → Grows s (cal
 mutual
   pub statement-grows : (statement : Statement) (calls : Calls) (k : ℕ) → CallsGrow calls → (s : SourceState) →
       Grows s (statement_meaning calls k statement s)
-  statement-grows (Assign at x e) calls k h s =
+  statement-grows (Placed at (Assign x e)) calls k h s =
       grows-evaluated s (value_of s e) (λ v. normally (assigned s x v))
       (λ v. grows-itself s s refl (normally (assigned s x v)) (sent-with_cells s x (v ∷ [])))
-  statement-grows (Clear at slot) calls k h s = grows-itself s s refl (normally (cleared s slot)) refl
-  statement-grows (Store at array length index e) calls k h s =
+  statement-grows (Placed at (Clear slot)) calls k h s = grows-itself s s refl (normally (cleared s slot)) refl
+  statement-grows (Placed at (Store array length index e)) calls k h s =
       grows-evaluated s (value_of s index) _ (λ v.
       grows-evaluated s (value_of s e) _ (λ w.
       grows-evaluated s (checked_index v length) (λ i. normally (stored s array i w)) (λ i.
       grows-itself s s refl (normally (stored s array i w)) (sent-with_cells s array _))))
-  statement-grows (Receive at channel target) calls k h s = grows-received (s.inputs channel) channel target s
-  statement-grows (Send at channel e) calls k h s =
+  statement-grows (Placed at (Receive channel target)) calls k h s = grows-received (s.inputs channel) channel target s
+  statement-grows (Placed at (Send channel e)) calls k h s =
       grows-evaluated s (value_of s e) (λ v. normally (sending channel v s)) (λ v.
       record { sent = (record { channel = channel; number = number_in v } ∷ [], refl) })
-  statement-grows (Call at procedure arguments target) calls k h s =
+  statement-grows (Placed at (Call procedure arguments target)) calls k h s =
       grows-evaluated s (values_of s arguments) (λ vs. returned_to target (calls procedure vs s)) (λ vs.
       grows-returned_to s target (calls procedure vs s) (h procedure vs s))
-  statement-grows (If at e then_block else_block) calls k h s =
+  statement-grows (Placed at (If e then_block else_block)) calls k h s =
       grows-evaluated s (value_of s e) (λ v. if truth_in v then block_meaning calls k then_block s else block_meaning calls k else_block s) (λ v.
       grows-if s (truth_in v) (block_meaning calls k then_block s) (block_meaning calls k else_block s) (block-grows then_block calls k h s)
       (block-grows else_block calls k h s))
-  statement-grows (While at loop e body) calls k h s = grows-fuel k (λ t. value_of t e) (block_meaning calls k body) (block-grows body calls k h) s
-  statement-grows (Leave at exit) calls k h s = grows-itself s s refl (Ended exit None s) refl
-  statement-grows (ReturnWith at None) calls k h s = grows-itself s s refl (Ended Return None s) refl
-  statement-grows (ReturnWith at (Some e)) calls k h s =
+  statement-grows (Placed at (While loop e body)) calls k h s = grows-fuel k (λ t. value_of t e) (block_meaning calls k body) (block-grows body calls k h) s
+  statement-grows (Placed at (Leave exit)) calls k h s = grows-itself s s refl (Ended exit None s) refl
+  statement-grows (Placed at (ReturnWith None)) calls k h s = grows-itself s s refl (Ended Return None s) refl
+  statement-grows (Placed at (ReturnWith (Some e))) calls k h s =
       grows-evaluated s (value_of s e) (λ v. Ended Return (Some v) s) (λ v. grows-itself s s refl (Ended Return (Some v) s) refl)
-  statement-grows (Try at block handlers) calls k h s =
+  statement-grows (Placed at (Try block handlers)) calls k h s =
       grows-caught s (block_meaning calls k block s) (handlers_meaning calls k handlers) (block-grows block calls k h s)
       (handlers-grow handlers calls k h)
-  statement-grows (Nested at block) calls k h s = block-grows block calls k h s
+  statement-grows (Placed at (Nested block)) calls k h s = block-grows block calls k h s
 
   pub block-grows : (block : Block) (calls : Calls) (k : ℕ) → CallsGrow calls → (s : SourceState) →
       Grows s (block_meaning calls k block s)

@@ -11,7 +11,8 @@ use Rattle.resolved.specs.declared.statement.Exit.{Exit}
 use Rattle.common.specs.declared.direction.Direction.{Direction}
 use Rattle.common.specs.declared.direction.Direction.TheVariants.{Input, Output}
 use Rattle.resolved.specs.Tree.{Empty}
-use Rattle.resolved.specs.Program.{Program, ChannelEntry, ProcedureEntry, procedure_at, channel_at, slot_at}
+use Rattle.labels.specs.Channel.{ChannelContents}
+use Rattle.resolved.specs.Program.{Program, ProcedureEntry, procedure_at, slot_at}
 use Rattle.resolved.specs.SourceState.{SourceState, World, cells}
 use Rattle.resolved.specs.Meaning.{Deep, Outcome, leaving, Stopped, entering, first_cells_of_slots, block_meaning, calls_with, first_state, numbers_by, run_within, state_after}
 use Rattle.resolved.specs.Exits.{block_exits}
@@ -198,17 +199,17 @@ module _ (program : Program) (labelling : Labelling) (accepted : Accepted progra
   }
 
 -- the numbers of a channel at first, which are those of the world where the channel is an input
-numbers-alike : (channels : List ChannelEntry) (none : ChannelEntry) (n : ℕ) (first second : List ℤ) →
-    none.direction ≡ Output → (n < length channels → (slice_index_or channels n none).direction ≡ Input → first ≡ second) →
+numbers-alike : (channels : List ChannelContents) (none : ChannelContents) (n : ℕ) (first second : List ℤ) →
+    none.direction ≡ Output → ((channel : ChannelContents) → slice_get channels n ≡ Some channel → channel.direction ≡ Input → first ≡ second) →
     numbers_by (slice_index_or channels n none).direction first ≡ numbers_by (slice_index_or channels n none).direction second
 numbers-alike [] none n first second sends same = rw sends refl
 numbers-alike (channel ∷ rest) none zero first second sends same = go channel.direction refl
   where
     go : (d : Direction) → channel.direction ≡ d → numbers_by channel.direction first ≡ numbers_by channel.direction second
-    go Input e = ap (λ l. numbers_by channel.direction l) (same (omega arith) e)
+    go Input e = ap (λ l. numbers_by channel.direction l) (same channel refl e)
     go Output e = rw e refl
 numbers-alike (channel ∷ rest) none (suc n) first second sends same =
-    numbers-alike rest none n first second sends (λ h e. same (omega (arith, h)) e)
+    numbers-alike rest none n first second sends same
 
 -- what an observer sees of calls of which one is stopped, or which end in the same way, or at labels that it does not read
 related_call-prefix : (view : View) (value : Bool) (exits : Exit → Bool) (o p : Outcome) → RelatedCall view value exits o p →
@@ -225,13 +226,13 @@ module _ (program : Program) (labelling : Labelling) (accepted : Accepted progra
   abbrev outside : View
   outside = view_of (under reader labelling) (record { program = program; number = program.main })
 
-  first-alike : (first second : World) → ((n : ℕ) → n < length program.channels → (channel_at program n).direction ≡ Input →
+  first-alike : (first second : World) → ((n : ℕ) (channel : ChannelContents) → slice_get program.channels n ≡ Some channel → channel.direction ≡ Input →
       reader.reads (channel_label program n) ≡ true → first n ≡ second n) →
       AgreeFor outside (first_state program first) (first_state program second)
   first-alike first second same = record {
     variables = variables;
     inputs = λ n e. numbers-alike program.channels (record { direction = Output; name = []; label = [] }) n (first n) (second n) refl
-        (λ h d. same n h d e);
+        (λ channel there input. same n channel there input e);
     sent = refl;
   }
     where
@@ -241,7 +242,7 @@ module _ (program : Program) (labelling : Labelling) (accepted : Accepted progra
       variables (Local n) e = refl
 
   -- two runs on worlds in which the inputs that the observer reads are the same
-  pub runs-prefix : (first second : World) → ((n : ℕ) → n < length program.channels → (channel_at program n).direction ≡ Input →
+  pub runs-prefix : (first second : World) → ((n : ℕ) (channel : ChannelContents) → slice_get program.channels n ≡ Some channel → channel.direction ≡ Input →
       reader.reads (channel_label program n) ≡ true → first n ≡ second n) → (frames k m : ℕ) →
       IsPrefix (shown outside (state_after (run_within frames program first k)).sent)
       (shown outside (state_after (run_within frames program second m)).sent) ⊎ IsPrefix

@@ -1,19 +1,21 @@
 -- The laws of confinement and isolation for principals.
 use Rattle.std.proofs.Common.{◌≡◌, refl, sym, ◌∙◌, ℕ, Bool, true, false, [], inl, inr}
 use Rattle.labels.specs.Label.{may_read}
+use Rattle.labels.proofs.Isolated.{views-isolated}
+use Rattle.labels.proofs.Tests.{may_read-decides}
 use Rattle.resolved.specs.SourceState.{SourceState}
 use Rattle.principals.specs.ActsFor.{PrincipalHierarchy}
 use Rattle.resolved.specs.Program.{Program}
-use Rattle.resolved.specs.Meaning.{Outcome, Ended, Stopped, statement_meaning, calls_with, state_after, frame_limit}
+use Rattle.resolved.specs.Meaning.{Outcome, Ended, Stopped, statement_meaning, calls_with, state_after, frame_limit, sent_by}
 use Rattle.resolved.specs.Exits.{statement_exits}
-use Rattle.resolved.specs.Labelled.{Scope, here, Labelling, ExitLabels, Labelled, result_label, exit_faults}
+use Rattle.resolved.specs.Labelled.{Scope, here, Labelling, ExitLabels, Labelled, channel_label, result_label, exit_faults}
 use Rattle.resolved.proofs.Demands.{labelled-fits}
 use Rattle.resolved.specs.LabelRules.{statement_rule, statement_exit_labels}
 use Rattle.resolved.specs.Isolated.{Isolated}
 use Rattle.isolation.specs.Confinement.{SameFor, UnreadExit, StatementsAreConfined, PossibleEndsAreUnread}
 use Rattle.isolation.specs.TwoRuns.{OutcomesAgree, StatementsAgree}
 use Rattle.isolation.specs.Larger.{IsolatedCarried}
-use Rattle.labels.specs.Carried.{KeepsActsFor}
+use Rattle.labels.specs.Carried.{KeepsActsFor, carried_label}
 use Rattle.isolation.proofs.Among.{statement-among}
 use Rattle.isolation.proofs.Declared.{ends-as-declared}
 use Rattle.isolation.proofs.Observer.{under, view_of, AgreeFor, agree-back}
@@ -54,14 +56,17 @@ confined scope labelling faults labelled p pc unread statement fits frames k s =
     )
 
 pub isolated : (program : Program) → exit_faults program ≡ [] → Labelled program → Isolated program
-isolated program faults labelled p first second agree k m =
-    runs-prefix program labelled.0 (accepted-from program faults labelled) (principal-reader program.hierarchy p) first second agree frame_limit k m
+isolated program faults labelled =
+    views-isolated program.hierarchy (channel_label program) program.channels (sent_by program) (λ p first second agree k m.
+    runs-prefix program labelled.0 (accepted-from program faults labelled) (principal-reader program.hierarchy p) first second
+    (λ n channel there input reads. agree n channel there input ((may_read-decides program.hierarchy p (channel_label program n)).0 reads)) frame_limit k m)
 
 pub isolated-carried : (program : Program) (larger : PrincipalHierarchy) (carry : ℕ → ℕ) → exit_faults program ≡ [] →
     Labelled program → KeepsActsFor program.hierarchy larger carry → IsolatedCarried program larger carry
-isolated-carried program larger carry faults labelled keeps p first second agree k m =
-    runs-prefix program labelled.0 (accepted-from program faults labelled)
-    (carried-reader program.hierarchy larger carry keeps p) first second agree frame_limit k m
+isolated-carried program larger carry faults labelled keeps =
+    views-isolated larger (λ n. carried_label carry (channel_label program n)) program.channels (sent_by program) (λ p first second agree k m.
+    runs-prefix program labelled.0 (accepted-from program faults labelled) (carried-reader program.hierarchy larger carry keeps p) first second
+    (λ n channel there input reads. agree n channel there input ((may_read-decides larger p (carried_label carry (channel_label program n))).0 reads)) frame_limit k m)
 
 pub ends-unread : (scope : Scope) (labelling : Labelling) → PossibleEndsAreUnread scope labelling
 ends-unread scope labelling p pc unread in_loop statement faults fits exit among =

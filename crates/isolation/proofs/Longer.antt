@@ -5,7 +5,7 @@ use Rattle.labels.specs.Sent.{IsPrefix}
 use Rattle.resolved.specs.declared.expression.Variable.{Variable}
 use Rattle.common.specs.declared.value.Value.{Value}
 use Rattle.resolved.specs.declared.statement.Exit.TheVariants.{Normal, Return, Break, Continue, Throw}
-use Rattle.resolved.specs.Tree.{Statement, Call, If, While, ReturnWith, Try, Nested, Block, Empty, Then, Handlers, NoMore, Catch}
+use Rattle.resolved.specs.Tree.{Statement, Placed, Call, If, While, ReturnWith, Try, Nested, Block, Empty, Then, Handlers, NoMore, Catch}
 use Rattle.resolved.specs.Program.{Program, procedure_at}
 use Rattle.common.specs.Values.{truth_in}
 use Rattle.resolved.specs.Value.{Evaluated, Yields, Raises}
@@ -117,26 +117,26 @@ record LongerCalls (calls further : Calls) : Type 0 where
 mutual
   statement-longer : (statement : Statement) (calls further : Calls) (k m : ℕ) → k ≤ m → LongerCalls calls further → (s : SourceState) →
       Longer (statement_meaning calls k statement s) (statement_meaning further m statement s)
-  statement-longer (If at e then_block else_block) calls further k m le h s =
+  statement-longer (Placed at (If e then_block else_block)) calls further k m le h s =
       longer-evaluated (value_of s e) s (λ v. if truth_in v then block_meaning calls k then_block s else block_meaning calls k else_block s)
       (λ v. if truth_in v then block_meaning further m then_block s else block_meaning further m else_block s) (λ v.
       longer-if (truth_in v) (block_meaning calls k then_block s) (block_meaning calls k else_block s) (block_meaning further m then_block s)
       (block_meaning further m else_block s)
       (block-longer then_block calls further k m le h s) (block-longer else_block calls further k m le h s))
-  statement-longer (While at loop e body) calls further k m le h s =
+  statement-longer (Placed at (While loop e body)) calls further k m le h s =
       longer-fuel k m le (λ t. value_of t e) (block_meaning calls k body) (block_meaning further m body)
       (block-longer body calls further k m le h) (block-grows body further m h.grows) s
-  statement-longer (Call at procedure arguments target) calls further k m le h s =
+  statement-longer (Placed at (Call procedure arguments target)) calls further k m le h s =
       longer-evaluated (values_of s arguments) s (λ vs. returned_to target (calls procedure vs s))
       (λ vs. returned_to target (further procedure vs s)) (λ vs.
       longer-returned_to target (calls procedure vs s) (further procedure vs s) (h.longer procedure vs s))
-  statement-longer (Try at block handlers) calls further k m le h s =
+  statement-longer (Placed at (Try block handlers)) calls further k m le h s =
       longer-caught (block_meaning calls k block s) (block_meaning further m block s) (handlers_meaning calls k handlers)
       (handlers_meaning further m handlers) (block-longer block calls further k m le h s)
       (handlers-longer handlers calls further k m le h) (handlers-grow handlers further m h.grows)
-  statement-longer (Nested at block) calls further k m le h s = block-longer block calls further k m le h s
-  statement-longer (ReturnWith at None) calls further k m le h s = longer-itself (Ended Return None s)
-  statement-longer (ReturnWith at (Some e)) calls further k m le h s =
+  statement-longer (Placed at (Nested block)) calls further k m le h s = block-longer block calls further k m le h s
+  statement-longer (Placed at (ReturnWith None)) calls further k m le h s = longer-itself (Ended Return None s)
+  statement-longer (Placed at (ReturnWith (Some e))) calls further k m le h s =
       longer-itself (evaluated (value_of s e) s (λ v. Ended Return (Some v) s))
   statement-longer other calls further k m le h s = longer-itself (statement_meaning calls k other s)
 

@@ -8,7 +8,7 @@ use Rattle.common.specs.declared.value.Value.{Value}
 use Rattle.common.specs.declared.value.Value.TheVariants.{Int as Number}
 use Rattle.resolved.specs.declared.statement.Exit.{Exit}
 use Rattle.resolved.specs.declared.statement.Exit.TheVariants.{Normal, Return, Break, Continue, Throw}
-use Rattle.resolved.specs.Tree.{Expression, Statement, Assign, Clear, Store, Receive, Send, Call, If, While, Leave, ReturnWith, Try, Nested, Block, Empty, Then, Handlers, NoMore, Catch}
+use Rattle.resolved.specs.Tree.{Expression, Statement, Placed, Assign, Clear, Store, Receive, Send, Call, If, While, Leave, ReturnWith, Try, Nested, Block, Empty, Then, Handlers, NoMore, Catch}
 use Rattle.resolved.specs.Program.{Program, procedure_at}
 use Rattle.common.specs.Values.{truth_in, zero_of, kind_of}
 use Rattle.resolved.specs.Value.{checked_index}
@@ -116,22 +116,22 @@ module _ (h : PrincipalHierarchy) (labelling : Labelling) (reader : Reader h lab
         AgreeFor (view_of reader scope) s t →
         Related (view_of reader scope) (reads_result reader (here scope)) (read_exits reader (statement_rule scope pc statement))
         (statement_meaning calls k statement s) (statement_meaning further m statement t)
-    statement-secure (Assign at x e) pc fits s t agree =
+    statement-secure (Placed at (Assign x e)) pc fits s t agree =
         let view = view_of reader scope in
         let value = reads_result reader (here scope) in
-        let q : Join = own_label scope pc (Assign at x e) in
-        let exits = read_exits reader (statement_rule scope pc (Assign at x e)) in
-        by-reading (reader.reads q) (both-hidden (Assign at x e) pc fits s t agree) (λ read.
+        let q : Join = own_label scope pc (Placed at (Assign x e)) in
+        let exits = read_exits reader (statement_rule scope pc (Placed at (Assign x e))) in
+        by-reading (reader.reads q) (both-hidden (Placed at (Assign x e)) pc fits s t agree) (λ read.
         related-evaluated (SameIf (reader.reads (value_label scope e))) view value exits s t (value_of s e) (value_of t e)
         (λ v. normally (assigned s x v)) (λ v. normally (assigned t x v)) agree
         (expression-alike reader scope s t agree e (read-right reader pc (raise_label scope e) read)) (λ v w f g same.
         agreed_exit Normal (assigned s x v) (assigned t x w) (agree-with_cells view s t x (v ∷ []) (w ∷ []) agree (λ reads.
         ap (λ u. u ∷ []) (same (read-right reader q (value_label scope e)
         (read-demand reader scope.program at 1 (q ++ value_label scope e) (ToVariable scope.number x) fits reads)))))))
-    statement-secure (Clear at slot) pc fits s t agree =
+    statement-secure (Placed at (Clear slot)) pc fits s t agree =
         agreed_exit Normal (cleared s slot) (cleared t slot) (agree-with_cells (view_of reader scope) s t (Local slot) _ _ agree
         (λ reads. ap (λ l. map (λ v. zero_of (kind_of v)) l) (agree.variables (Local slot) reads)))
-    statement-secure (Store at array len index e) pc fits s t agree =
+    statement-secure (Placed at (Store array len index e)) pc fits s t agree =
         let view = view_of reader scope in
         let value = reads_result reader (here scope) in
         let ri : Join = raise_label scope index in
@@ -139,9 +139,9 @@ module _ (h : PrincipalHierarchy) (labelling : Labelling) (reader : Reader h lab
         let vi : Join = value_label scope index in
         let ve : Join = value_label scope e in
         let test : Bool = index_can_raise index len in
-        let q : Join = own_label scope pc (Store at array len index e) in
-        let exits = read_exits reader (statement_rule scope pc (Store at array len index e)) in
-        by-reading (reader.reads q) (both-hidden (Store at array len index e) pc fits s t agree) (λ read.
+        let q : Join = own_label scope pc (Placed at (Store array len index e)) in
+        let exits = read_exits reader (statement_rule scope pc (Placed at (Store array len index e))) in
+        by-reading (reader.reads q) (both-hidden (Placed at (Store array len index e)) pc fits s t agree) (λ read.
         let front = read-left reader (pc ++ ri ++ re) (list_if test vi) read in
         let covered : test ≡ true → reader.reads vi ≡ true = read-list_if reader test vi
         (read-right reader (pc ++ ri ++ re) (list_if test vi) read) in
@@ -157,37 +157,37 @@ module _ (h : PrincipalHierarchy) (labelling : Labelling) (reader : Reader h lab
         let all = read-demand reader scope.program at 3 (q ++ vi ++ ve) (ToVariable scope.number array) fits reads in
         let left = read-left reader (q ++ vi) ve all in
         rw (agree.variables array reads, same_place (read-right reader q vi left), same (read-right reader (q ++ vi) ve all)) refl))))))
-    statement-secure (Receive at channel target) pc fits s t agree =
+    statement-secure (Placed at (Receive channel target)) pc fits s t agree =
         let view = view_of reader scope in
         let value = reads_result reader (here scope) in
-        let exits = read_exits reader (statement_rule scope pc (Receive at channel target)) in
-        by-reading (reader.reads (own_label scope pc (Receive at channel target))) (both-hidden (Receive at channel target) pc fits s t agree) (λ read.
+        let exits = read_exits reader (statement_rule scope pc (Placed at (Receive channel target))) in
+        by-reading (reader.reads (own_label scope pc (Placed at (Receive channel target)))) (both-hidden (Placed at (Receive channel target)) pc fits s t agree) (λ read.
         related-received view value exits channel target s t (s.inputs channel) (t.inputs channel)
         (agree.inputs channel (sym (reader.written _) ∙ read-right reader pc (one (label_of scope.program (ToChannel channel))) read)) agree)
-    statement-secure (Send at channel e) pc fits s t agree =
+    statement-secure (Placed at (Send channel e)) pc fits s t agree =
         let view = view_of reader scope in
         let value = reads_result reader (here scope) in
-        let q : Join = own_label scope pc (Send at channel e) in
-        let exits = read_exits reader (statement_rule scope pc (Send at channel e)) in
-        by-reading (reader.reads q) (both-hidden (Send at channel e) pc fits s t agree) (λ read.
+        let q : Join = own_label scope pc (Placed at (Send channel e)) in
+        let exits = read_exits reader (statement_rule scope pc (Placed at (Send channel e))) in
+        by-reading (reader.reads q) (both-hidden (Placed at (Send channel e)) pc fits s t agree) (λ read.
         related-evaluated (SameIf (reader.reads (value_label scope e))) view value exits s t (value_of s e) (value_of t e)
         (λ v. normally (sending channel v s)) (λ v. normally (sending channel v t)) agree
         (expression-alike reader scope s t agree e (read-right reader pc (raise_label scope e) read)) (λ v w f g same.
         agreed_exit Normal (sending channel v s) (sending channel w t) (agree-sending view s t channel v w agree (λ reads.
         same (read-right reader q (value_label scope e) (read-demand reader scope.program at 5 (q ++ value_label scope e)
         (ToChannel channel) fits (reader.written _ ∙ reads)))))))
-    statement-secure (Call at f arguments target) pc fits s t agree =
+    statement-secure (Placed at (Call f arguments target)) pc fits s t agree =
         let view = view_of reader scope in
         let value = reads_result reader (here scope) in
-        let q : Join = own_label scope pc (Call at f arguments target) in
+        let q : Join = own_label scope pc (Placed at (Call f arguments target)) in
         let callee = procedure_at scope.program f in
-        let exits = read_exits reader (statement_rule scope pc (Call at f arguments target)) in
+        let exits = read_exits reader (statement_rule scope pc (Placed at (Call f arguments target))) in
         let ds = argument_demands scope at q f 0 arguments in
         let left : Join = call_exit_labels scope.program f q Normal ++ one (label_of scope.program (ToValue f)) in
         let ts = target_demand scope at 6 left target in
         let front = fits-left h labelling (demand scope.program at 6 q (ToBegin f) ++ ds) ts fits in
         let last = fits-right h labelling (demand scope.program at 6 q (ToBegin f) ++ ds) ts fits in
-        by-reading (reader.reads q) (both-hidden (Call at f arguments target) pc fits s t agree) (λ read.
+        by-reading (reader.reads q) (both-hidden (Placed at (Call f arguments target)) pc fits s t agree) (λ read.
         related-evaluated (ArgumentsAlike reader scope arguments) view value exits s t (values_of s arguments) (values_of t arguments)
         (λ vs. returned_to target (calls f vs s)) (λ vs. returned_to target (further f vs t)) agree
         (arguments-alike reader scope s t agree arguments (read-right reader pc (flat_map (raise_label scope) arguments) read)) (λ vs ws g g' same.
@@ -200,12 +200,12 @@ module _ (h : PrincipalHierarchy) (labelling : Labelling) (reader : Reader h lab
         (unread-declared reader scope.program f q Normal u)))
         (λ x e reads. sym (reader.written _) ∙ read-right reader (call_exit_labels scope.program f q Normal) (one (label_of scope.program (ToValue f)))
         (target-read reader scope at 6 left target last x e reads))))
-    statement-secure (If at e then_block else_block) pc fits s t agree =
+    statement-secure (Placed at (If e then_block else_block)) pc fits s t agree =
         let view = view_of reader scope in
         let value = reads_result reader (here scope) in
-        let q : Join = own_label scope pc (If at e then_block else_block) in
+        let q : Join = own_label scope pc (Placed at (If e then_block else_block)) in
         let b : Join = q ++ value_label scope e in
-        let exits = read_exits reader (statement_rule scope pc (If at e then_block else_block)) in
+        let exits = read_exits reader (statement_rule scope pc (Placed at (If e then_block else_block))) in
         let yes_exits = block_exits scope.program then_block in
         let no_exits = block_exits scope.program else_block in
         let yes_exit_labels : ExitLabels = at_exits yes_exits b (block_rule scope b then_block) in
@@ -216,7 +216,7 @@ module _ (h : PrincipalHierarchy) (labelling : Labelling) (reader : Reader h lab
         (raised_exit_labels e q exit ++ yes_exit_labels exit) (no_exit_labels exit) (unread-right reader (raised_exit_labels e q exit) (yes_exit_labels exit) u) in
         let no_more : (exit : Exit) → reader.reads (no_exit_labels exit) ≡ false → exits exit ≡ false = λ exit u. unread-right reader
         (raised_exit_labels e q exit ++ yes_exit_labels exit) (no_exit_labels exit) u in
-        by-reading (reader.reads q) (both-hidden (If at e then_block else_block) pc fits s t agree) (λ read.
+        by-reading (reader.reads q) (both-hidden (Placed at (If e then_block else_block)) pc fits s t agree) (λ read.
         related-evaluated (SameIf (reader.reads (value_label scope e))) view value exits s t (value_of s e) (value_of t e)
         (λ v. if truth_in v then block_meaning calls k then_block s else block_meaning calls k else_block s)
         (λ v. if truth_in v then block_meaning further m then_block t else block_meaning further m else_block t) agree
@@ -255,20 +255,20 @@ module _ (h : PrincipalHierarchy) (labelling : Labelling) (reader : Reader h lab
         (related-closed reader view value no_exits b (block_rule scope b else_block) (block_meaning calls k else_block s)
         (block_meaning further m else_block t) (block-among else_block scope.program calls k secures.first.among s)
         (block-among else_block scope.program further m secures.second.among t) (block-secure else_block b no_fits s t agree)) no_more))))
-    statement-secure (While at loop e body) pc fits s t agree =
+    statement-secure (Placed at (While loop e body)) pc fits s t agree =
         let view = view_of reader scope in
         let value = reads_result reader (here scope) in
         let l : Join = one (label_of scope.program (ToLoop scope.number loop)) in
-        let q : Join = own_label scope pc (While at loop e body) in
+        let q : Join = own_label scope pc (Placed at (While loop e body)) in
         let b : Join = q ++ value_label scope e in
         let ends = block_exits scope.program body in
         let x : ExitLabels = at_exits ends b (block_rule scope b body) in
-        let exits = read_exits reader (statement_rule scope pc (While at loop e body)) in
+        let exits = read_exits reader (statement_rule scope pc (Placed at (While loop e body))) in
         let front = fits-left h labelling (demand scope.program at 8 pc (ToLoop scope.number loop) ++ block_demands scope b body) (demand scope.program at 8 (x Normal ++ x Continue) (ToLoop scope.number loop)) fits in
         let body_fits = fits-right h labelling (demand scope.program at 8 pc (ToLoop scope.number loop)) (block_demands scope b body) front in
         let back = fits-right h labelling (demand scope.program at 8 pc (ToLoop scope.number loop) ++ block_demands scope b body) (demand scope.program at 8 (x Normal ++ x Continue) (ToLoop scope.number loop)) fits in
         let loop_exit_labels_read = loop-read reader (raised_exit_labels e q) b x in
-        by-reading (reader.reads q) (both-hidden (While at loop e body) pc fits s t agree) (λ read.
+        by-reading (reader.reads q) (both-hidden (Placed at (While loop e body)) pc fits s t agree) (λ read.
         let read_l : reader.reads l ≡ true = read-left reader l (raise_label scope e) read in
         let read_r : reader.reads (raise_label scope e) ≡ true = read-right reader l (raise_label scope e) read in
         let comes_back : reader.reads (x Normal ++ x Continue) ≡ true = read-demand reader scope.program at 8 (x Normal ++ x Continue) (ToLoop scope.number loop) back read_l in
@@ -319,26 +319,26 @@ module _ (h : PrincipalHierarchy) (labelling : Labelling) (reader : Reader h lab
           };
         })
         k m s t agree))
-    statement-secure (Leave at exit) pc fits s t agree = agreed_exit exit s t agree
-    statement-secure (ReturnWith at None) pc fits s t agree = agreed_exit Return s t agree
-    statement-secure (ReturnWith at (Some e)) pc fits s t agree =
+    statement-secure (Placed at (Leave exit)) pc fits s t agree = agreed_exit exit s t agree
+    statement-secure (Placed at (ReturnWith None)) pc fits s t agree = agreed_exit Return s t agree
+    statement-secure (Placed at (ReturnWith (Some e))) pc fits s t agree =
         let view = view_of reader scope in
         let value = reads_result reader (here scope) in
-        let q : Join = own_label scope pc (ReturnWith at (Some e)) in
-        let exits = read_exits reader (statement_rule scope pc (ReturnWith at (Some e))) in
-        by-reading (reader.reads q) (both-hidden (ReturnWith at (Some e)) pc fits s t agree) (λ read.
+        let q : Join = own_label scope pc (Placed at (ReturnWith (Some e))) in
+        let exits = read_exits reader (statement_rule scope pc (Placed at (ReturnWith (Some e)))) in
+        by-reading (reader.reads q) (both-hidden (Placed at (ReturnWith (Some e))) pc fits s t agree) (λ read.
         related-evaluated (SameIf (reader.reads (value_label scope e))) view value exits s t (value_of s e) (value_of t e)
         (λ v. Ended Return (Some v) s) (λ v. Ended Return (Some v) t) agree
         (expression-alike reader scope s t agree e (read-right reader pc (raise_label scope e) read)) (λ v w f g same.
         same_return (Some v) (Some w) s t agree (λ reads.
         ap (λ u. Some u) (same (read-right reader q (value_label scope e)
         (read-demand reader scope.program at 10 (q ++ value_label scope e) (ToValue scope.number) fits (reader.written _ ∙ reads)))))))
-    statement-secure (Try at block handlers) pc fits s t agree =
+    statement-secure (Placed at (Try block handlers)) pc fits s t agree =
         let view = view_of reader scope in
         let value = reads_result reader (here scope) in
         let ends = block_exits scope.program block in
         let x : ExitLabels = at_exits ends pc (block_rule scope pc block) in
-        let exits = read_exits reader (statement_rule scope pc (Try at block handlers)) in
+        let exits = read_exits reader (statement_rule scope pc (Placed at (Try block handlers))) in
         let block_fits = fits-left h labelling (block_demands scope pc block) (handlers_demands scope x handlers) fits in
         let handlers_fit = fits-right h labelling (block_demands scope pc block) (handlers_demands scope x handlers) fits in
         let others : (exit : Exit) → passes handlers exit ≡ true → reader.reads (x exit) ≡ false → exits exit ≡ false =
@@ -361,7 +361,7 @@ module _ (h : PrincipalHierarchy) (labelling : Labelling) (reader : Reader h lab
           grows_first = handlers-grow handlers calls k secures.grows_first;
           grows_second = handlers-grow handlers further m secures.grows_second;
         })
-    statement-secure (Nested at block) pc fits s t agree =
+    statement-secure (Placed at (Nested block)) pc fits s t agree =
         related-closed reader (view_of reader scope) (reads_result reader (here scope)) (block_exits scope.program block) pc
         (block_rule scope pc block) (block_meaning calls k block s) (block_meaning further m block t)
         (block-among block scope.program calls k secures.first.among s) (block-among block scope.program further m secures.second.among t)

@@ -8,7 +8,7 @@ use Rattle.principals.specs.ActsFor.{PrincipalHierarchy}
 use Rattle.resolved.specs.FaultParts.{place_of, may_stand, inner_faults}
 use Rattle.resolved.specs.declared.statement.Exit.{Exit}
 use Rattle.resolved.specs.declared.statement.Exit.TheVariants.{Normal, Return, Break, Continue, Throw}
-use Rattle.resolved.specs.Tree.{Statement, Call, If, While, ReturnWith, Try, Nested, Block, Empty, Then, Handlers, NoMore, Catch}
+use Rattle.resolved.specs.Tree.{Statement, Placed, Call, If, While, ReturnWith, Try, Nested, Block, Empty, Then, Handlers, NoMore, Catch}
 use Rattle.resolved.specs.Exits.{same_exit, has_exit, raises, thrown_exits, leaves_loop, passes, then_exits, statement_exits, block_exits, handlers_exits, fault_unless, list_if}
 use Rattle.resolved.specs.ExitFaults.{block_faults, handlers_faults}
 use Rattle.resolved.specs.declared.fault.ExitRefusalKind.TheVariants.{OutsideLoop, Unreachable, NeverRaised}
@@ -70,13 +70,13 @@ module _ (h : PrincipalHierarchy) (labelling : Labelling) (reader : Reader h lab
         inner_faults scope.program in_loop statement ≡ [] → FitsDemands h labelling (statement_demands scope pc statement) →
         reader.reads pc ≡ false → (exit : Exit) → has_exit (statement_exits scope.program statement) exit ≡ true →
         reader.reads (statement_rule scope pc statement exit) ≡ false
-    statement-ends-unread (Call at f arguments target) pc in_loop faults fits unread exit among =
-        unread-call reader scope.program f (own_label scope pc (Call at f arguments target))
-        (own-unread reader scope pc (Call at f arguments target) fits unread) exit
-    statement-ends-unread (If at e then_block else_block) pc in_loop faults fits unread exit among =
-        let q : Join = own_label scope pc (If at e then_block else_block) in
+    statement-ends-unread (Placed at (Call f arguments target)) pc in_loop faults fits unread exit among =
+        unread-call reader scope.program f (own_label scope pc (Placed at (Call f arguments target)))
+        (own-unread reader scope pc (Placed at (Call f arguments target)) fits unread) exit
+    statement-ends-unread (Placed at (If e then_block else_block)) pc in_loop faults fits unread exit among =
+        let q : Join = own_label scope pc (Placed at (If e then_block else_block)) in
         let b : Join = q ++ value_label scope e in
-        let unread_q = own-unread reader scope pc (If at e then_block else_block) fits unread in
+        let unread_q = own-unread reader scope pc (Placed at (If e then_block else_block)) fits unread in
         let unread_b = unread-left reader q (value_label scope e) unread_q in
         let yes_exits = block_exits scope.program then_block in
         let no_exits = block_exits scope.program else_block in
@@ -98,11 +98,11 @@ module _ (h : PrincipalHierarchy) (labelling : Labelling) (reader : Reader h lab
         (block-ends-unread else_block b in_loop true parts.1 (fits-right h labelling (block_demands scope b then_block)
         (block_demands scope b else_block) fits) unread_b exit no)))
         (either-end (thrown_exits (raises e) ++ yes_exits) no_exits exit among)
-    statement-ends-unread (While at loop e body) pc in_loop faults fits unread exit among =
+    statement-ends-unread (Placed at (While loop e body)) pc in_loop faults fits unread exit among =
         let l : Join = one (label_of scope.program (ToLoop scope.number loop)) in
-        let q : Join = own_label scope pc (While at loop e body) in
+        let q : Join = own_label scope pc (Placed at (While loop e body)) in
         let b : Join = q ++ value_label scope e in
-        let unread_q = own-unread reader scope pc (While at loop e body) fits unread in
+        let unread_q = own-unread reader scope pc (Placed at (While loop e body)) fits unread in
         let unread_b = unread-left reader q (value_label scope e) unread_q in
         let ends = block_exits scope.program body in
         let x : ExitLabels = at_exits ends b (block_rule scope b body) in
@@ -119,7 +119,7 @@ module _ (h : PrincipalHierarchy) (labelling : Labelling) (reader : Reader h lab
         (block-ends-unread body b true true faults body_fits unread_b exit found.1))))
         (either-end (thrown_exits (raises e)) (filter leaves_loop ends) exit other))
         (or_cases (same_exit exit Normal) (has_exit (thrown_exits (raises e) ++ filter leaves_loop ends) exit) among)
-    statement-ends-unread (Try at block handlers) pc in_loop faults fits unread exit among =
+    statement-ends-unread (Placed at (Try block handlers)) pc in_loop faults fits unread exit among =
         let ends = block_exits scope.program block in
         let x : ExitLabels = at_exits ends pc (block_rule scope pc block) in
         let parts = append_empty (block_faults scope.program in_loop true block) (handlers_faults scope.program in_loop ends handlers) faults in
@@ -135,12 +135,12 @@ module _ (h : PrincipalHierarchy) (labelling : Labelling) (reader : Reader h lab
         (handlers-ends-unread handlers x in_loop ends parts.1 (fits-right h labelling (block_demands scope pc block)
         (handlers_demands scope x handlers) fits) (λ y found. inner (Throw y) found) exit handled))
         (either-end (filter (passes handlers) ends) (handlers_exits scope.program handlers) exit among)
-    statement-ends-unread (Nested at block) pc in_loop faults fits unread exit among =
+    statement-ends-unread (Placed at (Nested block)) pc in_loop faults fits unread exit among =
         closed-unread reader (block_exits scope.program block) pc (block_rule scope pc block) exit (λ one. unread) among
         (block-ends-unread block pc in_loop true faults fits unread exit among)
-    statement-ends-unread (ReturnWith at None) pc in_loop faults fits unread exit among = unread
-    statement-ends-unread (ReturnWith at (Some e)) pc in_loop faults fits unread exit among = own-unread reader scope pc
-        (ReturnWith at (Some e)) fits unread
+    statement-ends-unread (Placed at (ReturnWith None)) pc in_loop faults fits unread exit among = unread
+    statement-ends-unread (Placed at (ReturnWith (Some e))) pc in_loop faults fits unread exit among = own-unread reader scope pc
+        (Placed at (ReturnWith (Some e))) fits unread
     statement-ends-unread other pc in_loop faults fits unread exit among = own-unread reader scope pc other fits unread
 
     pub block-ends-unread : (block : Block) (pc : Join) (in_loop reached : Bool) →

@@ -12,7 +12,7 @@ use Rattle.common.specs.declared.operator.Operator.TheVariants.{Compare}
 use Rattle.common.specs.declared.operator.Comparison.TheVariants.{Ordered}
 use Rattle.common.specs.declared.operator.Order.TheVariants.{GreaterThan}
 use Rattle.common.specs.declared.direction.Direction.TheVariants.{Input, Output}
-use Rattle.resolved.specs.Tree.{Integer, Read, Binary, Assign, Receive, Send, While, Try, Block, Empty, Then, NoMore, Catch}
+use Rattle.resolved.specs.Tree.{Integer, Read, Binary, Placed, Assign, Receive, Send, While, Try, Block, Empty, Then, NoMore, Catch}
 use Rattle.resolved.specs.Program.{Program, ThrownEntry}
 use Rattle.common.specs.declared.exceptions.TheConstants.{END}
 use Rattle.resolved.specs.SourceState.{World}
@@ -56,15 +56,15 @@ program_with out throws end_label body = record {
 -- `void main() throws (End{Alice:}) { int{Alice:} x = receive s; send out, x; }`
 abbrev pub relay : (out : Label) → Program
 relay out = program_with out (record { exception = END; label = for_alice } ∷ []) for_alice
-    (Then (Receive 0 0 (Some (Local 0))) (Then (Send 0 1 (Read (Local 0))) Empty))
+    (Then (Placed 0 (Receive 0 (Some (Local 0)))) (Then (Placed 0 (Send 1 (Read (Local 0)))) Empty))
 
 -- `void main() { int{Alice:} x = 0; try { x = receive s; } catch (End) { } while (x > 0) { } send out, 1; }`, with `output{} out;`
 abbrev pub waiting : Program
 waiting = program_with [] [] []
-    (Then (Assign 0 (Local 0) (Integer 0))
-    (Then (Try 0 (Then (Receive 0 0 (Some (Local 0))) Empty) (Catch 0 END Empty NoMore))
-    (Then (While 0 0 (Binary (Compare (Ordered GreaterThan)) (Read (Local 0)) (Integer 0)) Empty)
-    (Then (Send 0 1 (Integer 1)) Empty))))
+    (Then (Placed 0 (Assign (Local 0) (Integer 0)))
+    (Then (Placed 0 (Try (Then (Placed 0 (Receive 0 (Some (Local 0)))) Empty) (Catch 0 END Empty NoMore)))
+    (Then (Placed 0 (While 0 (Binary (Compare (Ordered GreaterThan)) (Read (Local 0)) (Integer 0)) Empty))
+    (Then (Placed 0 (Send 1 (Integer 1))) Empty))))
 
 -- the world in which one number comes on s
 abbrev pub comes : ℤ → World

@@ -1,10 +1,12 @@
 -- Isolation under hierarchies that have grown, to which the labels of a program are carried over.
 -- Source: our own.
 use Rattle.std.specs.Prelude.{ℕ}
-use Rattle.principals.specs.ActsFor.{PrincipalHierarchy, IsHierarchy, ContainsHierarchy}
-use Rattle.labels.specs.Carried.{carried_label, label_under}
+use Rattle.principals.specs.ActsFor.{PrincipalHierarchy}
+use Rattle.labels.specs.Carried.{carried_label}
+use Rattle.labels.specs.Isolated.{RunsStayIsolated}
 use Rattle.resolved.specs.Program.{Program}
 use Rattle.resolved.specs.Labelled.{channel_label}
+use Rattle.resolved.specs.Meaning.{sent_by}
 use Rattle.resolved.specs.Isolated.{IsolatedUnder}
 
 -- isolation where readers, agreement and observers are taken under another hierarchy, to which a renumbering leads
@@ -13,6 +15,4 @@ IsolatedCarried program larger carry = IsolatedUnder larger (λ channel. carried
 
 -- isolation under every larger hierarchy: each that contains the program's own, to which its labels are carried over by name
 abbrev pub IsolatedUnderLarger : Program → Type 0
-IsolatedUnderLarger program =
-    (larger : PrincipalHierarchy) → IsHierarchy larger → ContainsHierarchy larger program.hierarchy
-    → IsolatedUnder larger (λ channel. label_under program.hierarchy larger (channel_label program channel)) program
+IsolatedUnderLarger program = RunsStayIsolated program.hierarchy (channel_label program) program.channels (sent_by program)

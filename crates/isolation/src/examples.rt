@@ -1,7 +1,8 @@
 //! The definitions are not empty: programs that the rules accept, one that they refuse, and what two runs show.
 
 ghost use Rattle.isolation.specs.Examples.{bob, bob_sees, comes, for_alice, relay, sends, two_principals, waiting};
-ghost use Rattle.resolved.specs.Isolated.{Agree, Isolated};
+ghost use Rattle.labels.specs.Isolated.{WorldsAgree};
+ghost use Rattle.resolved.specs.Isolated.{Isolated};
 ghost use Rattle.resolved.specs.Labelled.{Labelled, channel_label, exit_faults};
 ghost use Rattle.resolved.specs.Meaning.{sent_by};
 ghost use Rattle.std.specs.Prelude.{[], ℕ, pos, ◌≡◌};
@@ -21,7 +22,7 @@ pub fn a_label_decides()
 pub fn lists_may_differ_in_length()
     ensures faultless { exit_faults waiting ≡ [] }
     ensures labelled { Labelled waiting }
-    ensures agree { Agree two_principals (channel_label waiting) waiting bob
+    ensures agree { WorldsAgree two_principals (channel_label waiting) waiting.channels bob
         (comes (pos 0)) (comes (pos 1)) }
     ensures all { (k : ℕ) → bob_sees (comes (pos 0)) k ≡ sends (pos 1) }
     ensures nothing { (k : ℕ) → bob_sees (comes (pos 1)) k ≡ [] }

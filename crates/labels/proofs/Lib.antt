@@ -6,6 +6,7 @@ pub mod Flow
 pub mod Held
 pub mod Found
 pub mod FlowTests
+pub mod Isolated
 pub mod Joined
 pub mod Meaning
 pub mod Names

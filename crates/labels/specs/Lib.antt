@@ -1,8 +1,10 @@
 pub mod Canonical
 pub mod Carried
+pub mod Channel
 pub mod Comparing
 pub mod Entries
 pub mod Inside
+pub mod Isolated
 pub mod Label
 pub mod LabelTable
 pub mod LabelLattice

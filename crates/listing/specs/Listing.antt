@@ -5,7 +5,8 @@ use Rattle.std.specs.Fmt.{decimal, digits}
 use Rattle.principals.specs.ActsFor.{PrincipalHierarchy}
 use Rattle.labels.specs.Printed.{printed_label}
 use Rattle.modules.specs.Code.{width_of}
-use Rattle.modules.specs.Contents.{ChannelContents, ModuleContents, ProcedureContents}
+use Rattle.labels.specs.Channel.{ChannelContents}
+use Rattle.modules.specs.Contents.{ModuleContents, ProcedureContents}
 use Rattle.modules.specs.Opcodes.{instruction_text}
 use Rattle.common.specs.declared.direction.Direction.{Direction}
 use Rattle.common.specs.declared.direction.Direction.TheVariants.{Input, Output}

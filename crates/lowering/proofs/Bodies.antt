@@ -5,7 +5,7 @@ use Rattle.std.specs.Prelude.{Option, Some, None, if◌then◌else◌, ◌==◌}
 use Rattle.common.specs.declared.base_type.BaseType.TheVariants as base
 use Rattle.resolved.specs.declared.statement.Exit.TheVariants.{Return}
 use Rattle.common.specs.declared.direction.Direction.TheVariants.{Input, Output}
-use Rattle.resolved.specs.Tree.{Statement, Assign, Clear, Store, Receive, Send, Call, If, While, Leave, ReturnWith, Try, Nested, Block, Empty, Then, Handlers, NoMore, Catch}
+use Rattle.resolved.specs.Tree.{Statement, Placed, Assign, Clear, Store, Receive, Send, Call, If, While, Leave, ReturnWith, Try, Nested, Block, Empty, Then, Handlers, NoMore, Catch}
 use Rattle.resolved.specs.Program.{Program, procedure_at}
 use Rattle.resolved.specs.SourceState as source
 use Rattle.resolved.specs.SourceState.{value_of, values_of, assigned}
@@ -64,21 +64,21 @@ module _ (g : Setting) (calls : Calls) (k : ℕ) (keep : CallsKeep g.program cal
         → Stands g.code (statement_code g.program loop at statement) at → Under g (statement_table g.program at statement) at (statement_size g.program statement) h
         → StateFits g.program g.procedure s
         → Runs g loop h k (position g at [] s) (at + statement_size g.program statement) (statement_meaning calls k statement s)
-    statement-runs (Assign start x e) loop h at s fits stands under fit = assign-runs g loop h k s fit x e at fits stands (plain g at (value_size e + 1) h under)
-    statement-runs (Clear start slot) loop h at s fits stands under fit = clear-runs g loop h k s fit slot at [] fits stands
-    statement-runs (Store start array count index e) loop h at s fits stands under fit =
+    statement-runs (Placed start (Assign x e)) loop h at s fits stands under fit = assign-runs g loop h k s fit x e at fits stands (plain g at (value_size e + 1) h under)
+    statement-runs (Placed start (Clear slot)) loop h at s fits stands under fit = clear-runs g loop h k s fit slot at [] fits stands
+    statement-runs (Placed start (Store array count index e)) loop h at s fits stands under fit =
         let parts = and_parts (array_by (variable_type g.program g.procedure array) count (λ b. has_base g.program g.procedure b e)) (has_base g.program g.procedure base.Int index) fits in
         store-runs g loop h k s fit array count index e at parts.0 parts.1 stands (plain g at (value_size index + (value_size e + 1)) h under)
-    statement-runs (Receive start channel target) loop h at s fits stands under fit =
+    statement-runs (Placed start (Receive channel target)) loop h at s fits stands under fit =
         let parts = and_parts (channel_is (slice_get g.program.channels channel) Input) (target_by g.program g.procedure target (same_base base.Int)) fits in
         receive-runs g loop h k s fit channel at target parts.0 parts.1 stands (plain g at 2 h under)
-    statement-runs (Send start channel e) loop h at s fits stands under fit =
+    statement-runs (Placed start (Send channel e)) loop h at s fits stands under fit =
         let parts = and_parts (channel_is (slice_get g.program.channels channel) Output) (has_base g.program g.procedure base.Int e) fits in
         send-runs g loop h k s fit channel e at parts.0 parts.1 stands (plain g at (value_size e + 1) h under)
-    statement-runs (Call start f arguments target) loop h at s fits stands under fit =
+    statement-runs (Placed start (Call f arguments target)) loop h at s fits stands under fit =
         call-runs g loop h k calls run f at (slice_get g.program.procedures f) arguments target s fit refl fits stands
         (plain g at (arguments_size arguments + (1 + result_size (procedure_at g.program f).result)) h under)
-    statement-runs (If start e then_block else_block) loop h at s fits stands under fit =
+    statement-runs (Placed start (If e then_block else_block)) loop h at s fits stands under fit =
         let outer = and_parts (has_base g.program g.procedure base.Boolean e && block_fits g.program g.procedure then_block) (block_fits g.program g.procedure else_block) fits in
         let inner = and_parts (has_base g.program g.procedure base.Boolean e) (block_fits g.program g.procedure then_block) outer.0 in
         let n = branch_size false e in
@@ -109,7 +109,7 @@ module _ (g : Setting) (calls : Calls) (k : ℕ) (keep : CallsKeep g.program cal
         (λ empty. omega (arith, ap jump_size none, empty_size g.program else_block empty)))
         (block-runs then_block loop h yes_at s inner.1 (stands-front g.code first (jump ++ second) yes_at stands1) under_yes fit) in
         let no_runs : Runs g loop h k (position g no_at [] s) (no_at + z) (block_meaning calls k else_block s) = block-runs else_block loop h no_at s outer.1 stands3 under_no fit in
-        runs-at g loop h k (position g at [] s) (no_at + z) (at + (n + (y + (jump_size over + z)))) (statement_meaning calls k (If start e then_block else_block) s) (omega arith)
+        runs-at g loop h k (position g at [] s) (no_at + z) (at + (n + (y + (jump_size over + z)))) (statement_meaning calls k (Placed start (If e then_block else_block)) s) (omega arith)
         (branch-evaluated g loop h k false no_at (position g at [] s) yes_at (no_at + z) s (value_of s e) (λ t. if t then block_meaning calls k then_block s else block_meaning calls k else_block s)
         (branch-runs g h s fit e false at no_at inner.0 (stands-front g.code (branch_code false at no_at e) (first ++ (jump ++ second)) at stands) finds)
         (λ t. either_runs yes_at no_at (no_at + z) t (block_meaning calls k then_block s) (block_meaning calls k else_block s) yes_runs no_runs))
@@ -118,7 +118,7 @@ module _ (g : Setting) (calls : Calls) (k : ℕ) (keep : CallsKeep g.program cal
             → Runs g loop h k (position g (Rattle.lowering.proofs.Branches.lead_by false t no_at yes_at) [] s) end (if t then one else other)
         either_runs yes_at no_at end true one other a b = a
         either_runs yes_at no_at end false one other a b = b
-    statement-runs (While start number e body) loop h at s fits stands under fit =
+    statement-runs (Placed start (While number e body)) loop h at s fits stands under fit =
         let parts = and_parts (has_base g.program g.procedure base.Boolean e) (block_fits g.program g.procedure body) fits in
         let m = block_size g.program body in
         let b = branch_size true e in
@@ -132,7 +132,7 @@ module _ (g : Setting) (calls : Calls) (k : ℕ) (keep : CallsKeep g.program cal
         let finds : Finds g test b h = under-none g table at (1 + (m + b)) h test b under (omega arith) (omega arith)
         (λ i x least most. block-outside g.program (at + 1) body i x (λ low. omega (arith, least))) in
         let under_body : Under g table (at + 1) m h = under-part g table table at (1 + (m + b)) h (at + 1) m under (omega arith) (omega arith) (λ i x least most. refl) in
-        runs-at g loop h k (position g at [] s) (test + b) (at + (1 + (m + b))) (statement_meaning calls k (While start number e body) s) (omega arith)
+        runs-at g loop h k (position g at [] s) (test + b) (at + (1 + (m + b))) (statement_meaning calls k (Placed start (While number e body)) s) (omega arith)
         (runs-from g loop h k (position g at [] s) (position g test [] s) (test + b) (fuel k (λ t. value_of t e) (block_meaning calls k body) s)
         (jump-runs g h s test at [] (code ++ branch) stands)
         (fuel-run g loop inner h (at + 1) k (λ t. value_of t e) (block_meaning calls k body)
@@ -140,12 +140,12 @@ module _ (g : Setting) (calls : Calls) (k : ℕ) (keep : CallsKeep g.program cal
         (λ t fit'. block-runs body inner h (at + 1) t parts.1 (stands-front g.code code branch (at + 1) stands1) under_body fit')
         (λ t fit'. let kept : OutcomeFits g.program g.procedure Return g.procedure.result (block_meaning calls k body t) = block_keeps g.program g.procedure calls keep k body t fit' parts.1 in kept.state)
         k (omega arith) s fit))
-    statement-runs (Leave start way) loop h at s fits stands under fit =
+    statement-runs (Placed start (Leave way)) loop h at s fits stands under fit =
         leaves-runs g loop h k s way at [] fits stands ((plain g at 1 h under).finds at (omega arith) (omega arith))
-    statement-runs (ReturnWith start None) loop h at s fits stands under fit = returns-nothing g loop h k s at [] fits stands
-    statement-runs (ReturnWith start (Some e)) loop h at s fits stands under fit =
+    statement-runs (Placed start (ReturnWith None)) loop h at s fits stands under fit = returns-nothing g loop h k s at [] fits stands
+    statement-runs (Placed start (ReturnWith (Some e))) loop h at s fits stands under fit =
         return-runs g loop h k s fit e at (at + (value_size e + 1)) fits stands (plain g at (value_size e + 1) h under)
-    statement-runs (Try start block handlers) loop h at s fits stands under fit =
+    statement-runs (Placed start (Try block handlers)) loop h at s fits stands under fit =
         let parts = and_parts (block_fits g.program g.procedure block) (handlers_fit g.program g.procedure handlers) fits in
         let m = block_size g.program block in
         let over = jumps_after block handlers in
@@ -176,10 +176,10 @@ module _ (g : Setting) (calls : Calls) (k : ℕ) (keep : CallsKeep g.program cal
         (λ falls. block-stays g.program g.procedure calls k block parts.0 falls s)
         (λ empty. omega (arith, ap jump_size none, none_size g.program handlers empty)))
         (block-runs block loop inside at s parts.0 (stands-front g.code first (jump ++ second) at stands) under_block fit) in
-        runs-at g loop h k (position g at [] s) end (at + (m + (jump_size over + z))) (statement_meaning calls k (Try start block handlers) s) (omega arith)
+        runs-at g loop h k (position g at [] s) end (at + (m + (jump_size over + z))) (statement_meaning calls k (Placed start (Try block handlers)) s) (omega arith)
         (caught-runs g loop h inside k (position g at [] s) end (block_meaning calls k block s) (handlers_meaning calls k handlers) block_run kept.state
         (λ x t fit'. handlers-run handlers loop h at (at + m) next end x t parts.1 stands2 under_handlers (omega arith) refl fit'))
-    statement-runs (Nested start block) loop h at s fits stands under fit = block-runs block loop h at s fits stands under fit
+    statement-runs (Placed start (Nested block)) loop h at s fits stands under fit = block-runs block loop h at s fits stands under fit
 
     pub block-runs : (block : Block) (loop : Loop) (h : ℕ → Option ℕ) (at : ℕ) (s : source.SourceState) → block_fits g.program g.procedure block ≡ true
         → Stands g.code (block_code g.program loop at block) at → Under g (block_table g.program at block) at (block_size g.program block) h

@@ -22,12 +22,12 @@ y = tree.Read (Local 1)
 
 -- `while (x) { while (y) { } }`: from the test of the outer loop control goes on at that of the inner one
 nested : (p : Program) → ◌≡◌ {A = List Instruction}
-    (threaded (body_code p (tree.Then (tree.While 0 0 x (tree.Then (tree.While 0 0 y tree.Empty) tree.Empty)) tree.Empty)))
+    (threaded (body_code p (tree.Then (tree.Placed 0 (tree.While 0 x (tree.Then (tree.Placed 0 (tree.While 0 y tree.Empty)) tree.Empty))) tree.Empty)))
     (Jump 5 ∷ Jump 2 ∷ Load storage.Local 1 ∷ Operate Not ∷ JumpIfFalse 2 ∷ Load storage.Local 0 ∷ Operate Not ∷ JumpIfFalse 2 ∷ Return ∷ [])
 nested p = refl
 
 caught : (p : Program) → ◌≡◌ {A = List Handler}
-    (block_table p 0 (tree.Then (tree.Try 0 (tree.Then (tree.Send 0 0 (tree.Binary (operator.Compute Divide) (tree.Integer 1) x)) tree.Empty)
-    (tree.Catch 0 0 (tree.Then (tree.ReturnWith 0 None) tree.Empty) tree.NoMore)) tree.Empty))
+    (block_table p 0 (tree.Then (tree.Placed 0 (tree.Try (tree.Then (tree.Placed 0 (tree.Send 0 (tree.Binary (operator.Compute Divide) (tree.Integer 1) x))) tree.Empty)
+    (tree.Catch 0 0 (tree.Then (tree.Placed 0 (tree.ReturnWith None)) tree.Empty) tree.NoMore))) tree.Empty))
     (record { start = 0; end = 4; exception = 0; target = 5 } ∷ [])
 caught p = refl

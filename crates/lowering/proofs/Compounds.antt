@@ -4,7 +4,7 @@ use Rattle.modules.specs.declared.instruction.Instruction.{Instruction}
 use Rattle.modules.specs.declared.instruction.Instruction.TheVariants.{Jump}
 use Rattle.modules.specs.declared.declaration.Handler.{Handler}
 use Rattle.resolved.specs.Program.{Program}
-use Rattle.resolved.specs.Tree.{Expression, Statement, If, While, Try, Nested, Block, Then, Handlers, Catch}
+use Rattle.resolved.specs.Tree.{Expression, Statement, Placed, If, While, Try, Nested, Block, Then, Handlers, Catch}
 use Rattle.lowering.specs.Expressions.{branch_size, branch_code}
 use Rattle.lowering.specs.Code.{Loop, jump_size, jump_code, jumps_over, jumps_after, entry_of, block_size, block_code, block_table, handlers_size, handlers_code, handlers_table}
 use Rattle.lowering.specs.Added.{IsStatementAdded, IsBlockAdded, AreHandlersAdded}
@@ -14,25 +14,25 @@ use Rattle.lowering.proofs.Adding.{AreLeft, added-both, added-code, block-next, 
 
 -- ---- where a statement stands in its text does not show in its code
 pub if-placed : (program : Program) (loop : Loop) (s : Statement) (at : ℕ) (e : Expression) (then_block else_block : Block) (before after : List Instruction) (table_before table_after : List Handler)
-    → s ≡ If at e then_block else_block
-    → IsStatementAdded program loop (If 0 e then_block else_block) before after table_before table_after → IsStatementAdded program loop s before after table_before table_after
+    → s ≡ Placed at (If e then_block else_block)
+    → IsStatementAdded program loop (Placed 0 (If e then_block else_block)) before after table_before table_after → IsStatementAdded program loop s before after table_before table_after
 if-placed program loop s at e then_block else_block before after table_before table_after is made =
     subst (λ t. IsStatementAdded program loop t before after table_before table_after) (sym is) (record { code = made.code; handlers = made.handlers })
 
 pub while-placed : (program : Program) (loop : Loop) (s : Statement) (at number : ℕ) (e : Expression) (body : Block) (before after : List Instruction) (table_before table_after : List Handler)
-    → s ≡ While at number e body
-    → IsStatementAdded program loop (While 0 0 e body) before after table_before table_after → IsStatementAdded program loop s before after table_before table_after
+    → s ≡ Placed at (While number e body)
+    → IsStatementAdded program loop (Placed 0 (While 0 e body)) before after table_before table_after → IsStatementAdded program loop s before after table_before table_after
 while-placed program loop s at number e body before after table_before table_after is made =
     subst (λ t. IsStatementAdded program loop t before after table_before table_after) (sym is) (record { code = made.code; handlers = made.handlers })
 
 pub try-placed : (program : Program) (loop : Loop) (s : Statement) (at : ℕ) (block : Block) (handlers : Handlers) (before after : List Instruction) (table_before table_after : List Handler)
-    → s ≡ Try at block handlers
-    → IsStatementAdded program loop (Try 0 block handlers) before after table_before table_after → IsStatementAdded program loop s before after table_before table_after
+    → s ≡ Placed at (Try block handlers)
+    → IsStatementAdded program loop (Placed 0 (Try block handlers)) before after table_before table_after → IsStatementAdded program loop s before after table_before table_after
 try-placed program loop s at block handlers before after table_before table_after is made =
     subst (λ t. IsStatementAdded program loop t before after table_before table_after) (sym is) (record { code = made.code; handlers = made.handlers })
 
 pub nested-placed : (program : Program) (loop : Loop) (s : Statement) (at : ℕ) (block : Block) (before after : List Instruction) (table_before table_after : List Handler)
-    → s ≡ Nested at block
+    → s ≡ Placed at (Nested block)
     → IsBlockAdded program loop block before after table_before table_after → IsStatementAdded program loop s before after table_before table_after
 nested-placed program loop s at block before after table_before table_after is made =
     subst (λ t. IsStatementAdded program loop t before after table_before table_after) (sym is) (record { code = made.code; handlers = made.handlers })
@@ -47,7 +47,7 @@ pub if-added : (program : Program) (loop : Loop) (e : Expression) (then_block el
     → IsBlockAdded program loop then_block tested first table_before table_first
     → jumped ≡ first ++ jump_code jumps end
     → IsBlockAdded program loop else_block jumped after table_first table_after
-    → IsStatementAdded program loop (If 0 e then_block else_block) before after table_before table_after
+    → IsStatementAdded program loop (Placed 0 (If e then_block else_block)) before after table_before table_after
 if-added program loop e then_block else_block jumps second end before tested first jumped after table_before table_first table_after is_jumps is_second is_end test made jump made_too =
     let n = branch_size false e in
     let m = block_size program then_block in
@@ -82,7 +82,7 @@ pub while-added : (program : Program) (loop : Loop) (e : Expression) (body : Blo
     → jumped ≡ before ++ Jump test ∷ []
     → IsBlockAdded program (record { beyond = beyond; test = test }) body jumped first table_before table_after
     → after ≡ first ++ branch_code true (length first) start e
-    → IsStatementAdded program loop (While 0 0 e body) before after table_before table_after
+    → IsStatementAdded program loop (Placed 0 (While 0 e body)) before after table_before table_after
 while-added program loop e body start test beyond before jumped first after table_before table_after is_start is_test is_after jump made back =
     let m = block_size program body in
     let b = branch_size true e in
@@ -112,7 +112,7 @@ pub try-added : (program : Program) (loop : Loop) (block : Block) (handlers : Ha
     → IsBlockAdded program loop block before tried table_before table_tried
     → jumped ≡ tried ++ jump_code jumps beyond
     → AreHandlersAdded program loop beyond start end handlers jumped after table_tried table_after
-    → IsStatementAdded program loop (Try 0 block handlers) before after table_before table_after
+    → IsStatementAdded program loop (Placed 0 (Try block handlers)) before after table_before table_after
 try-added program loop block handlers jumps start end beyond before tried jumped after table_before table_tried table_after is_jumps is_start is_end is_after made jump caught =
     let m = block_size program block in
     let j = jumps_after block handlers in

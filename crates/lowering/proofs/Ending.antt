@@ -9,7 +9,7 @@ use Rattle.resolved.specs.FaultParts.{place_of, may_stand, inner_faults}
 use Rattle.resolved.specs.declared.statement.Exit.{Exit}
 use Rattle.resolved.specs.declared.statement.Exit.TheVariants.{Normal, Return, Break, Continue, Throw}
 use Rattle.common.specs.declared.base_type.BaseType.TheVariants.{Boolean}
-use Rattle.resolved.specs.Tree.{Expression, Statement, Assign, Clear, Store, Receive, Send, Call, If, While, Leave, ReturnWith, Try, Nested, Block, Empty, Then, Handlers, NoMore, Catch}
+use Rattle.resolved.specs.Tree.{Expression, Statement, Placed, Assign, Clear, Store, Receive, Send, Call, If, While, Leave, ReturnWith, Try, Nested, Block, Empty, Then, Handlers, NoMore, Catch}
 use Rattle.resolved.specs.Program.{Program, ProcedureEntry}
 use Rattle.resolved.specs.Exits.{same_exit, has_exit, raises, thrown_exits, passes, then_exits, statement_exits, block_exits, handlers_exits, fault_unless}
 use Rattle.resolved.specs.ExitFaults.{block_faults, handlers_faults}
@@ -90,7 +90,7 @@ module _ (program : Program) (procedure : ProcedureEntry) where
   mutual
     statement-stops : (loop : Loop) (in_loop : Bool) (position : ℕ) (statement : Statement) → statement_fits program procedure statement ≡ true
         → inner_faults program in_loop statement ≡ [] → statement_falls statement ≡ false → Stops (statement_code program loop position statement)
-    statement-stops loop in_loop position (If mark e then_block else_block) fits faults falls =
+    statement-stops loop in_loop position (Placed mark (If e then_block else_block)) fits faults falls =
         let b = branch_size false e in
         let j = jumps_over then_block else_block in
         let other = position + b + block_size program then_block + jump_size j in
@@ -101,9 +101,9 @@ module _ (program : Program) (procedure : ProcedureEntry) where
         stops-beyond (branch_code false position other e) (block_code program loop (position + b) then_block ++ (jump ++ last))
         (stops-beyond (block_code program loop (position + b) then_block) (jump ++ last)
         (stops-beyond jump last (block-stops loop in_loop true other else_block parts.1 none.1 (or_parts (block_falls then_block) (block_falls else_block) falls).1)))
-    statement-stops loop in_loop position (Leave mark exit) fits faults falls = leave-stops loop exit
-    statement-stops loop in_loop position (ReturnWith mark e) fits faults falls = return-stops position e
-    statement-stops loop in_loop position (Try mark block handlers) fits faults falls =
+    statement-stops loop in_loop position (Placed mark (Leave exit)) fits faults falls = leave-stops loop exit
+    statement-stops loop in_loop position (Placed mark (ReturnWith e)) fits faults falls = return-stops position e
+    statement-stops loop in_loop position (Placed mark (Try block handlers)) fits faults falls =
         let beyond = position + block_size program block + jump_size (jumps_after block handlers) in
         let end = beyond + handlers_size program handlers in
         let parts = and_parts (block_fits program procedure block) (handlers_fit program procedure handlers) fits in
@@ -111,7 +111,7 @@ module _ (program : Program) (procedure : ProcedureEntry) where
         let ends = or_parts (block_falls block) (handlers_fall handlers) falls in
         beyond-stops loop end beyond block (block_code program loop position block) handlers ends.0 (block-stops loop in_loop true position block parts.0 none.0 ends.0)
         (handlers-stop loop in_loop end beyond (block_exits program block) handlers parts.1 none.1 ends.1)
-    statement-stops loop in_loop position (Nested mark block) fits faults falls = block-stops loop in_loop true position block fits faults falls
+    statement-stops loop in_loop position (Placed mark (Nested block)) fits faults falls = block-stops loop in_loop true position block fits faults falls
     statement-stops loop in_loop position _ fits faults falls = absurd (let no : true ≡ false = falls in cc)
 
     pub block-stops : (loop : Loop) (in_loop reached : Bool) (position : ℕ) (block : Block) → block_fits program procedure block ≡ true
@@ -164,28 +164,28 @@ then-normal first rest h k =
 module _ (program : Program) where
   mutual
     statement-normal : (statement : Statement) → statement_falls statement ≡ true → has_exit (statement_exits program statement) Normal ≡ true
-    statement-normal (Assign mark x e) falls = refl
-    statement-normal (Clear mark slot) falls = refl
-    statement-normal (Store mark array size index e) falls = refl
-    statement-normal (Receive mark channel target) falls = refl
-    statement-normal (Send mark channel e) falls = refl
-    statement-normal (Call mark f arguments target) falls = refl
-    statement-normal (If mark e then_block else_block) falls =
+    statement-normal (Placed mark (Assign x e)) falls = refl
+    statement-normal (Placed mark (Clear slot)) falls = refl
+    statement-normal (Placed mark (Store array size index e)) falls = refl
+    statement-normal (Placed mark (Receive channel target)) falls = refl
+    statement-normal (Placed mark (Send channel e)) falls = refl
+    statement-normal (Placed mark (Call f arguments target)) falls = refl
+    statement-normal (Placed mark (If e then_block else_block)) falls =
         let raised = thrown_exits (raises e) in
         elim (or_cases (block_falls then_block) (block_falls else_block) falls) [
           | inl h ↦ some-left (raised ++ block_exits program then_block) (block_exits program else_block) (some-right raised (block_exits program then_block) (block-normal then_block h))
           | inr h ↦ some-right (raised ++ block_exits program then_block) (block_exits program else_block) (block-normal else_block h)
         ]
-    statement-normal (While mark loop e body) falls = refl
-    statement-normal (Leave mark exit) falls = absurd (let no : false ≡ true = falls in cc)
-    statement-normal (ReturnWith mark e) falls = absurd (let no : false ≡ true = falls in cc)
-    statement-normal (Try mark block handlers) falls =
+    statement-normal (Placed mark (While loop e body)) falls = refl
+    statement-normal (Placed mark (Leave exit)) falls = absurd (let no : false ≡ true = falls in cc)
+    statement-normal (Placed mark (ReturnWith e)) falls = absurd (let no : false ≡ true = falls in cc)
+    statement-normal (Placed mark (Try block handlers)) falls =
         let tried = filter (passes handlers) (block_exits program block) in
         elim (or_cases (block_falls block) (handlers_fall handlers) falls) [
           | inl h ↦ some-left tried (handlers_exits program handlers) (end-filter (passes handlers) (block_exits program block) Normal ∙ block-normal block h)
           | inr h ↦ some-right tried (handlers_exits program handlers) (handlers-normal handlers h)
         ]
-    statement-normal (Nested mark block) falls = block-normal block falls
+    statement-normal (Placed mark (Nested block)) falls = block-normal block falls
 
     pub block-normal : (block : Block) → block_falls block ≡ true → has_exit (block_exits program block) Normal ≡ true
     block-normal Empty falls = refl

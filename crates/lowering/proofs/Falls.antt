@@ -5,7 +5,7 @@ use Rattle.std.specs.Prelude.{Some, None, if◌then◌else◌, ◌==◌}
 use Rattle.common.specs.declared.base_type.BaseType.TheVariants.{Boolean}
 use Rattle.resolved.specs.declared.statement.Exit.{Exit}
 use Rattle.resolved.specs.declared.statement.Exit.TheVariants.{Normal, Return, Break, Continue, Throw}
-use Rattle.resolved.specs.Tree.{Statement, If, Leave, ReturnWith, Try, Nested, Block, Empty, Then, Handlers, NoMore, Catch}
+use Rattle.resolved.specs.Tree.{Statement, Placed, If, Leave, ReturnWith, Try, Nested, Block, Empty, Then, Handlers, NoMore, Catch}
 use Rattle.resolved.specs.Program.{Program, ProcedureEntry}
 use Rattle.resolved.specs.SourceState.{SourceState, value_of}
 use Rattle.common.specs.Values.{truth_in}
@@ -57,19 +57,19 @@ not-left program (Throw exception) s h = tt
 module _ (program : Program) (procedure : ProcedureEntry) (calls : Calls) (k : ℕ) where
   mutual
     pub statement-stays : (statement : Statement) → statement_fits program procedure statement ≡ true → statement_falls statement ≡ false → (s : SourceState) → NotNormal (statement_meaning calls k statement s)
-    statement-stays (If at e then_block else_block) fits falls s =
+    statement-stays (Placed at (If e then_block else_block)) fits falls s =
         let parts = and_parts (has_base program procedure Boolean e && block_fits program procedure then_block) (block_fits program procedure else_block) fits in
         let yes_fits : block_fits program procedure then_block ≡ true = (and_parts (has_base program procedure Boolean e) (block_fits program procedure then_block) parts.0).1 in
         let ends = or_parts (block_falls then_block) (block_falls else_block) falls in
         not-evaluated (value_of s e) s _ (λ v. not-either (truth_in v) _ _ (block-stays then_block yes_fits ends.0 s) (block-stays else_block parts.1 ends.1 s))
-    statement-stays (Leave at exit) fits falls s = not-left program exit s fits
-    statement-stays (ReturnWith at None) fits falls s = tt
-    statement-stays (ReturnWith at (Some e)) fits falls s = not-evaluated (value_of s e) s _ (λ v. tt)
-    statement-stays (Try at block handlers) fits falls s =
+    statement-stays (Placed at (Leave exit)) fits falls s = not-left program exit s fits
+    statement-stays (Placed at (ReturnWith None)) fits falls s = tt
+    statement-stays (Placed at (ReturnWith (Some e))) fits falls s = not-evaluated (value_of s e) s _ (λ v. tt)
+    statement-stays (Placed at (Try block handlers)) fits falls s =
         let parts = and_parts (block_fits program procedure block) (handlers_fit program procedure handlers) fits in
         let ends = or_parts (block_falls block) (handlers_fall handlers) falls in
         not-caught (block_meaning calls k block s) _ (block-stays block parts.0 ends.0 s) (λ exception t. handlers-stay handlers parts.1 ends.1 exception t)
-    statement-stays (Nested at block) fits falls s = block-stays block fits falls s
+    statement-stays (Placed at (Nested block)) fits falls s = block-stays block fits falls s
     statement-stays _ fits falls s = absurd (let no : true ≡ false = falls in cc)
 
     pub block-stays : (block : Block) → block_fits program procedure block ≡ true → block_falls block ≡ false → (s : SourceState) → NotNormal (block_meaning calls k block s)

@@ -15,7 +15,8 @@ use Rattle.resolved.specs.FaultParts.{may_exit}
 use Rattle.resolved.specs.declared.fault.ExitRefusalKind.TheVariants.{NoValueReturned, Undeclared}
 use Rattle.resolved.specs.WellFormed.{variable_type, well_formed, block_fits}
 use Rattle.resolved.proofs.WellFormedParts as parts
-use Rattle.modules.specs.Contents.{ChannelContents, ProcedureContents, ModuleContents}
+use Rattle.labels.specs.Channel.{ChannelContents}
+use Rattle.modules.specs.Contents.{ProcedureContents, ModuleContents}
 use Rattle.modules.specs.MachineParts.{slot_of}
 use Rattle.modules.specs.declared.instruction.Instruction.TheVariants as instruction
 use Rattle.layout.specs.Graph.{HasPositions}
@@ -25,7 +26,7 @@ use Rattle.verifier.specs.Fixed as fixed
 use Rattle.verifier.specs.Flow.{FlowsWell}
 use Rattle.verifier.proofs.Bounds.{bounded}
 use Rattle.verifier.proofs.NeverStuck.{never_stuck}
-use Rattle.lowering.specs.Interface.{slot_contents, channel_contents, global_contents, returned_kind}
+use Rattle.lowering.specs.Interface.{slot_contents, global_contents, returned_kind}
 use Rattle.lowering.specs.Code.{block_falls, block_size, block_code, block_table}
 use Rattle.lowering.specs.Graphs.{end_code, no_loop, body_code, procedure_contents, graph_of}
 use Rattle.lowering.specs.Laws.{ModulesAreNotRefused, ModulesAreNeverStuck}
@@ -53,10 +54,7 @@ stated : (program : Program) → well_formed program ≡ true → (entry : Proce
     → Stated program entry (laid_out (graph_of program)) (laid_out_procedure (procedure_contents program entry))
 stated program formed entry = record {
   variables_there = λ x. there x;
-  channels_there = λ k. slice_get-map (λ (channel : ChannelContents). channel.direction) (map channel_contents program.channels) k
-      ∙ ap (option_map (λ (channel : ChannelContents). channel.direction)) (slice_get-map channel_contents program.channels k)
-      ∙ option_twice channel_contents (λ (channel : ChannelContents). channel.direction) (slice_get program.channels k)
-      ∙ direction_same (slice_get program.channels k);
+  channels_there = λ k. slice_get-map (λ (channel : ChannelContents). channel.direction) program.channels k ∙ direction_same (slice_get program.channels k);
   exceptions_there = refl;
   returned_is = refl;
   called_there = λ f callee e. (

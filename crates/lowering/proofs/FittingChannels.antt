@@ -3,22 +3,20 @@ use Rattle.std.proofs.Common.{◌≡◌, ◌≢◌, ℕ, ◌^◌, ◌<◌, ◌�
 use Rattle.std.specs.Prelude.{All, Contains, nat_le}
 use Rattle.std.specs.List.{list_all}
 use Rattle.std.proofs.lemmas.List.{map-append, length-map, get_or-map}
-use Rattle.std.proofs.lemmas.List.Elements.{All-map, All-tail}
+use Rattle.std.proofs.lemmas.List.Elements.{All-tail}
 use Rattle.std.proofs.lemmas.Bool.{leb-true}
 use Rattle.std.proofs.lemmas.List.Sums.{AllPass-from_list_all}
 use Rattle.principals.specs.ActsFor.{PrincipalHierarchy, AllDifferent}
 use Rattle.labels.specs.Canonical.{IsCanonicalLabel}
 use Rattle.resolved.specs.Names.{IsShortName}
-use Rattle.resolved.specs.Program.{ChannelEntry}
+use Rattle.labels.specs.Channel.{ChannelContents}
 use Rattle.resolved.specs.WellFormed.{label_fits, label_nodes, node_limit}
 use Rattle.common.specs.declared.direction.Direction.{Direction}
 use Rattle.common.specs.declared.direction.Direction.TheVariants.{Input, Output}
 use Rattle.common.proofs.Cases.{all_front, pairs_front}
-use Rattle.modules.specs.Contents.{ChannelContents}
 use Rattle.modules.specs.ByteFormat.{Fits}
 use Rattle.modules.specs.Format.{is_among, direction, label, channel_after, declared}
 use Rattle.modules.specs.FormatParts.{exceptions as exceptions_field, is_built_in, channels, channel_names}
-use Rattle.lowering.specs.Interface.{channel_contents}
 use Rattle.lowering.proofs.Fronts.{FitEach-from_fronts, All-at_seam, not_among_front}
 use Rattle.lowering.proofs.FittingNames.{kept_name, after_different, none_in_front, not_contained, name_fits, exceptions_fit}
 use Rattle.lowering.proofs.FittingLabels.{label-fits}
@@ -58,51 +56,51 @@ fit_channels count names all short each different = (
 
 -- ---- the channels of a well-formed program
 
-abbrev name_of : ChannelEntry → List ℕ
+abbrev name_of : ChannelContents → List ℕ
 name_of entry = entry.name
 
 -- the names of a graph's channels are those of the program's
-same_names : (entries : List ChannelEntry) → channel_names (map channel_contents entries) ≡ map (λ (entry : ChannelEntry). entry.name) entries
+same_names : (entries : List ChannelContents) → channel_names entries ≡ map (λ (entry : ChannelContents). entry.name) entries
 same_names [] = refl
 same_names (entry ∷ entries) = ap (λ names. entry.name ∷ names) (same_names entries)
 
 -- what holds of all names holds of the name of each channel
-at_name : (P : List ℕ → Type 0) (entries : List ChannelEntry) → All P (map name_of entries) → All (λ (entry : ChannelEntry). P entry.name) entries
+at_name : (P : List ℕ → Type 0) (entries : List ChannelContents) → All P (map name_of entries) → All (λ (entry : ChannelContents). P entry.name) entries
 at_name P entries all k d lt =
     subst P (get_or-map name_of entries k d d.name lt) (all k d.name (omega (arith, lt, length-map entries name_of)))
 
 free-name : (names : List (List ℕ)) (name : List ℕ) → ¬ Contains built_in_names name → ¬ Contains names name → taken_by names name ≡ false
 free-name names name h k = λ i. not_contained built_in_names name h i || not_contained names name k i
 
-channels_fit : (h : PrincipalHierarchy) (names : List (List ℕ)) (entries : List ChannelEntry) → length h.names ≤ 256 → length entries ≤ 1048576
-    → list_all (λ (entry : ChannelEntry). nat_le (label_nodes entry.label) node_limit) entries ≡ true
-    → list_all (λ (entry : ChannelEntry). label_fits h entry.label) entries ≡ true → All IsShortName (map name_of entries)
+channels_fit : (h : PrincipalHierarchy) (names : List (List ℕ)) (entries : List ChannelContents) → length h.names ≤ 256 → length entries ≤ 1048576
+    → list_all (λ (entry : ChannelContents). nat_le (label_nodes entry.label) node_limit) entries ≡ true
+    → list_all (λ (entry : ChannelContents). label_fits h entry.label) entries ≡ true → All IsShortName (map name_of entries)
     → All (λ name. ¬ Contains built_in_names name) (map name_of entries) → All (λ name. ¬ Contains names name) (map name_of entries)
-    → AllDifferent (map name_of entries) → All (λ (entry : ChannelEntry). IsCanonicalLabel entry.label) entries
-    → Fits (channels (length h.names) names) (map channel_contents entries)
+    → AllDifferent (map name_of entries) → All (λ (entry : ChannelContents). IsCanonicalLabel entry.label) entries
+    → Fits (channels (length h.names) names) entries
 channels_fit h names entries few some small fits short free new different canonical =
-    let sizes : All (λ (entry : ChannelEntry). nat_le (label_nodes entry.label) node_limit ≡ true) entries =
-    AllPass-from_list_all (λ (entry : ChannelEntry). nat_le (label_nodes entry.label) node_limit) entries small in
-    let labels : All (λ (entry : ChannelEntry). label_fits h entry.label ≡ true) entries = AllPass-from_list_all (λ (entry : ChannelEntry). label_fits h entry.label) entries fits in
-    fit_channels (length h.names) names (map channel_contents entries) (omega (arith, some, length-map entries channel_contents))
-    (All-map (IsFitChannel (length h.names) names) channel_contents entries (λ k d lt. record {
+    let sizes : All (λ (entry : ChannelContents). nat_le (label_nodes entry.label) node_limit ≡ true) entries =
+    AllPass-from_list_all (λ (entry : ChannelContents). nat_le (label_nodes entry.label) node_limit) entries small in
+    let labels : All (λ (entry : ChannelContents). label_fits h entry.label ≡ true) entries = AllPass-from_list_all (λ (entry : ChannelContents). label_fits h entry.label) entries fits in
+    fit_channels (length h.names) names entries (omega (arith, some))
+    (λ k d lt. record {
       name = at_name IsShortName entries short k d lt;
       free = free-name names (get_or entries k d).name (at_name (λ name. ¬ Contains built_in_names name) entries free k d lt) (at_name (λ name. ¬ Contains names name) entries new k d lt);
       label = label-fits h (get_or entries k d).label few (labels k d lt) (leb-true (label_nodes (get_or entries k d).label) node_limit (sizes k d lt)) (canonical k d lt);
-    }))
+    })
     (subst AllDifferent (sym (same_names entries)) different)
 
 beyond-all : {A : Type 0} (P : A → Type 0) (xs ys : List A) → All P (xs ++ ys) → All P ys
 beyond-all P [] ys all = all
 beyond-all P (x ∷ xs) ys all = beyond-all P xs ys (All-tail P x (xs ++ ys) all)
 
-pub declared-fits : (h : PrincipalHierarchy) (names : List (List ℕ)) (entries : List ChannelEntry) → length h.names ≤ 256 → length names ≤ 1048576
-    → length entries ≤ 1048576 → list_all (λ (entry : ChannelEntry). nat_le (label_nodes entry.label) node_limit) entries ≡ true
-    → list_all (λ (entry : ChannelEntry). label_fits h entry.label) entries ≡ true
-    → All IsShortName (names ++ map (λ (entry : ChannelEntry). entry.name) entries)
-    → AllDifferent (built_in_names ++ (names ++ map (λ (entry : ChannelEntry). entry.name) entries))
-    → All (λ (entry : ChannelEntry). IsCanonicalLabel entry.label) entries
-    → Fits (declared (length h.names)) (names, map channel_contents entries)
+pub declared-fits : (h : PrincipalHierarchy) (names : List (List ℕ)) (entries : List ChannelContents) → length h.names ≤ 256 → length names ≤ 1048576
+    → length entries ≤ 1048576 → list_all (λ (entry : ChannelContents). nat_le (label_nodes entry.label) node_limit) entries ≡ true
+    → list_all (λ (entry : ChannelContents). label_fits h entry.label) entries ≡ true
+    → All IsShortName (names ++ map (λ (entry : ChannelContents). entry.name) entries)
+    → AllDifferent (built_in_names ++ (names ++ map (λ (entry : ChannelContents). entry.name) entries))
+    → All (λ (entry : ChannelContents). IsCanonicalLabel entry.label) entries
+    → Fits (declared (length h.names)) (names, entries)
 unfolding declared exceptions_field channels
 declared-fits h names entries few exceptions some small fits short different canonical =
     let kept = names ++ map name_of entries in

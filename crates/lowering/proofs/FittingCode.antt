@@ -25,8 +25,9 @@ use Rattle.resolved.specs.declared.statement.Exit.{Exit}
 use Rattle.resolved.specs.declared.statement.Exit.TheVariants.{Normal, Return, Break, Continue, Throw}
 use Rattle.common.specs.declared.direction.Direction.{Direction}
 use Rattle.common.specs.declared.direction.Direction.TheVariants.{Input, Output}
-use Rattle.resolved.specs.Tree.{Expression, Integer, Logical, Read, Element, Unary, Binary, Short, Statement, Assign, Clear, Store, Receive, Send, Call, If, While, Leave, ReturnWith, Try, Nested, Block, Empty, Then, Handlers, NoMore, Catch}
-use Rattle.resolved.specs.Program.{Program, ProcedureEntry, SlotEntry, ResultEntry, ChannelEntry, GlobalEntry, procedure_at}
+use Rattle.resolved.specs.Tree.{Expression, Integer, Logical, Read, Element, Unary, Binary, Short, Statement, Placed, Assign, Clear, Store, Receive, Send, Call, If, While, Leave, ReturnWith, Try, Nested, Block, Empty, Then, Handlers, NoMore, Catch}
+use Rattle.labels.specs.Channel.{ChannelContents}
+use Rattle.resolved.specs.Program.{Program, ProcedureEntry, SlotEntry, ResultEntry, GlobalEntry, procedure_at}
 use Rattle.resolved.specs.BitUse.{is_bit_operator, expression_uses_bits, statement_uses_bits, block_uses_bits, handlers_use_bits}
 use Rattle.resolved.specs.Value.{literal_number}
 use Rattle.resolved.specs.WellFormed.{VariableType, same_base, slot_type, global_type, variable_type, scalar_by, has_length, array_by, has_base, prefix_base, operand_base, result_base, has_result, target_by, channel_is, arguments_match, parameters_of, call_matches, is_exception, may_leave_by, is_array, statement_fits, block_fits, handlers_fit, statement_nodes, block_nodes, handlers_nodes}
@@ -212,7 +213,7 @@ module _ (version : Version) (program : Program) (procedure : ProcedureEntry) (s
       let there = array-is (variable_type program procedure x) count test h in
       variable-small x there.0 there.1
 
-  channel-small : (n : ℕ) (direction : Direction) (o : Option ChannelEntry) → slice_get program.channels n ≡ o → channel_is o direction ≡ true → n < 2 ^ 32
+  channel-small : (n : ℕ) (direction : Direction) (o : Option ChannelContents) → slice_get program.channels n ≡ o → channel_is o direction ≡ true → n < 2 ^ 32
   channel-small n direction None e h = absurd (cc)
   channel-small n direction (Some entry) e h = omega (arith, slice_get_within program.channels n entry e, short.channels)
 
@@ -341,8 +342,8 @@ module _ (version : Version) (program : Program) (procedure : ProcedureEntry) (s
       numbered-both (arguments_code at arguments) _ (arguments-numbered arguments (parameters_of callee) at parts.0 k)
       (numbered-more (instruction.Call f) _ small (result-numbered result target test parts.1))
 
-  return-numbered : (e : Option Expression) (p at : ℕ) → statement_fits program procedure (ReturnWith p e) ≡ true
-      → Allows version (statement_uses_bits (ReturnWith p e)) → AreNumbered version (return_code at e)
+  return-numbered : (e : Option Expression) (p at : ℕ) → statement_fits program procedure (Placed p (ReturnWith e)) ≡ true
+      → Allows version (statement_uses_bits (Placed p (ReturnWith e))) → AreNumbered version (return_code at e)
   return-numbered None p at h k = numbered-one instruction.Return tt
   return-numbered (Some e) p at h k =
       let there = result_some procedure.result (λ base. has_base program procedure base e) h in
@@ -352,20 +353,20 @@ module _ (version : Version) (program : Program) (procedure : ProcedureEntry) (s
   mutual
     statement-numbered : (loop : Loop) (p : ℕ) (statement : Statement) → statement_fits program procedure statement ≡ true
         → Allows version (statement_uses_bits statement) → AreNumbered version (statement_code program loop p statement)
-    statement-numbered loop p (Assign at x e) h k = assign-numbered x e p h k
-    statement-numbered loop p (Clear at slot) h k = numbered-one _ (clear-numbered slot (slice_get procedure.slots slot) refl h)
-    statement-numbered loop p (Store at array count index e) h k = element-numbered array count index e p h k
-    statement-numbered loop p (Receive at channel target) h k =
+    statement-numbered loop p (Placed at (Assign x e)) h k = assign-numbered x e p h k
+    statement-numbered loop p (Placed at (Clear slot)) h k = numbered-one _ (clear-numbered slot (slice_get procedure.slots slot) refl h)
+    statement-numbered loop p (Placed at (Store array count index e)) h k = element-numbered array count index e p h k
+    statement-numbered loop p (Placed at (Receive channel target)) h k =
         let parts = and_parts (channel_is (slice_get program.channels channel) Input) (target_by program procedure target (same_base Int)) h in
         numbered-more (instruction.Receive channel) _ (channel-small channel Input (slice_get program.channels channel) refl parts.0)
         (numbered-one _ (kept-numbered target (same_base Int) parts.1))
-    statement-numbered loop p (Send at channel e) h k =
+    statement-numbered loop p (Placed at (Send channel e)) h k =
         let parts = and_parts (channel_is (slice_get program.channels channel) Output) (has_base program procedure Int e) h in
         numbered-both (value_code p e) _ (value-numbered e Int p parts.1 k)
         (numbered-one (instruction.Send channel) (channel-small channel Output (slice_get program.channels channel) refl parts.0))
-    statement-numbered loop p (Call at f arguments target) h k =
+    statement-numbered loop p (Placed at (Call f arguments target)) h k =
         call-numbered f arguments target p (procedure_at program f).result (slice_get program.procedures f) refl h k
-    statement-numbered loop p (If at e then_block else_block) h k =
+    statement-numbered loop p (Placed at (If e then_block else_block)) h k =
         let parts = and_parts (has_base program procedure Boolean e && block_fits program procedure then_block) (block_fits program procedure else_block) h in
         let first = and_parts (has_base program procedure Boolean e) (block_fits program procedure then_block) parts.0 in
         let front = allows-first version (expression_uses_bits e || block_uses_bits then_block) (block_uses_bits else_block) k in
@@ -374,22 +375,22 @@ module _ (version : Version) (program : Program) (procedure : ProcedureEntry) (s
         (numbered-both (block_code program loop (p + branch_size false e) then_block) _ (block-numbered loop (p + branch_size false e) then_block first.1 (allows-second version (expression_uses_bits e) (block_uses_bits then_block) front))
         (numbered-both (jump_code (jumps_over then_block else_block) _) _ (jump-numbered (jumps_over then_block else_block) (no + block_size program else_block))
         (block-numbered loop no else_block parts.1 (allows-second version (expression_uses_bits e || block_uses_bits then_block) (block_uses_bits else_block) k))))
-    statement-numbered loop p (While at number e body) h k =
+    statement-numbered loop p (Placed at (While number e body)) h k =
         let parts = and_parts (has_base program procedure Boolean e) (block_fits program procedure body) h in
         let test = test_position program p body in
         numbered-more (instruction.Jump test) _ tt
         (numbered-both (block_code program _ (p + 1) body) _
         (block-numbered (record { beyond = test + branch_size true e; test = test }) (p + 1) body parts.1 (allows-second version (expression_uses_bits e) (block_uses_bits body) k))
         (branch-numbered e true test (p + 1) parts.0 (allows-first version (expression_uses_bits e) (block_uses_bits body) k)))
-    statement-numbered loop p (Leave at exit) h k = numbered-one _ (leave-numbered loop exit h)
-    statement-numbered loop p (ReturnWith at e) h k = return-numbered e at p h k
-    statement-numbered loop p (Try at block handlers) h k =
+    statement-numbered loop p (Placed at (Leave exit)) h k = numbered-one _ (leave-numbered loop exit h)
+    statement-numbered loop p (Placed at (ReturnWith e)) h k = return-numbered e at p h k
+    statement-numbered loop p (Placed at (Try block handlers)) h k =
         let parts = and_parts (block_fits program procedure block) (handlers_fit program procedure handlers) h in
         let position = handlers_position program p block handlers in
         numbered-both (block_code program loop p block) _ (block-numbered loop p block parts.0 (allows-first version (block_uses_bits block) (handlers_use_bits handlers) k))
         (numbered-both (jump_code (jumps_after block handlers) _) _ (jump-numbered (jumps_after block handlers) (position + handlers_size program handlers))
         (handlers-numbered loop (position + handlers_size program handlers) position handlers parts.1 (allows-second version (block_uses_bits block) (handlers_use_bits handlers) k)))
-    statement-numbered loop p (Nested at block) h k = block-numbered loop p block h k
+    statement-numbered loop p (Placed at (Nested block)) h k = block-numbered loop p block h k
 
     pub block-numbered : (loop : Loop) (p : ℕ) (block : Block) → block_fits program procedure block ≡ true
         → Allows version (block_uses_bits block) → AreNumbered version (block_code program loop p block)
@@ -411,28 +412,28 @@ module _ (version : Version) (program : Program) (procedure : ProcedureEntry) (s
 
   mutual
     statement-catches : (p : ℕ) (statement : Statement) → statement_fits program procedure statement ≡ true → AreCatches (statement_nodes statement) (statement_table program p statement)
-    statement-catches p (Assign at x e) h = catches-none _
-    statement-catches p (Clear at slot) h = catches-none _
-    statement-catches p (Store at array count index e) h = catches-none _
-    statement-catches p (Receive at channel target) h = catches-none _
-    statement-catches p (Send at channel e) h = catches-none _
-    statement-catches p (Call at f arguments target) h = catches-none _
-    statement-catches p (If at e then_block else_block) h =
+    statement-catches p (Placed at (Assign x e)) h = catches-none _
+    statement-catches p (Placed at (Clear slot)) h = catches-none _
+    statement-catches p (Placed at (Store array count index e)) h = catches-none _
+    statement-catches p (Placed at (Receive channel target)) h = catches-none _
+    statement-catches p (Placed at (Send channel e)) h = catches-none _
+    statement-catches p (Placed at (Call f arguments target)) h = catches-none _
+    statement-catches p (Placed at (If e then_block else_block)) h =
         let parts = and_parts (has_base program procedure Boolean e && block_fits program procedure then_block) (block_fits program procedure else_block) h in
         let first = and_parts (has_base program procedure Boolean e) (block_fits program procedure then_block) parts.0 in
         catches-both (block_nodes then_block) (block_nodes else_block) _ _ _
         (block-catches (p + branch_size false e) then_block first.1) (block-catches (no_position program p e then_block else_block) else_block parts.1) (omega arith)
-    statement-catches p (While at number e body) h =
+    statement-catches p (Placed at (While number e body)) h =
         let parts = and_parts (has_base program procedure Boolean e) (block_fits program procedure body) h in
         catches-more (block_nodes body) _ _ (block-catches (p + 1) body parts.1) (omega arith)
-    statement-catches p (Leave at exit) h = catches-none _
-    statement-catches p (ReturnWith at e) h = catches-none _
-    statement-catches p (Try at block handlers) h =
+    statement-catches p (Placed at (Leave exit)) h = catches-none _
+    statement-catches p (Placed at (ReturnWith e)) h = catches-none _
+    statement-catches p (Placed at (Try block handlers)) h =
         let parts = and_parts (block_fits program procedure block) (handlers_fit program procedure handlers) h in
         catches-both (block_nodes block) (handlers_nodes handlers) _ _ _
         (block-catches p block parts.0)
         (handlers-catches p (p + block_size program block) (handlers_position program p block handlers) handlers parts.1) (omega arith)
-    statement-catches p (Nested at block) h = catches-more (block_nodes block) _ _ (block-catches p block h) (omega arith)
+    statement-catches p (Placed at (Nested block)) h = catches-more (block_nodes block) _ _ (block-catches p block h) (omega arith)
 
     pub block-catches : (p : ℕ) (block : Block) → block_fits program procedure block ≡ true → AreCatches (block_nodes block) (block_table program p block)
     block-catches p Empty h = catches-none _

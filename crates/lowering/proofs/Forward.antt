@@ -13,7 +13,7 @@ use Rattle.common.specs.declared.operator.Connective.{Connective}
 use Rattle.common.specs.declared.operator.Connective.TheVariants.{And, Or}
 use Rattle.resolved.specs.declared.statement.Exit.{Exit}
 use Rattle.resolved.specs.declared.statement.Exit.TheVariants.{Normal, Return, Break, Continue, Throw}
-use Rattle.resolved.specs.Tree.{Expression, Integer, Logical, Read, Element, Unary, Binary, Short, Statement, Assign, Clear, Store, Receive, Send, Call, If, While, Leave, ReturnWith, Try, Nested, Block, Empty, Then, Handlers, NoMore, Catch}
+use Rattle.resolved.specs.Tree.{Expression, Integer, Logical, Read, Element, Unary, Binary, Short, Statement, Placed, Assign, Clear, Store, Receive, Send, Call, If, While, Leave, ReturnWith, Try, Nested, Block, Empty, Then, Handlers, NoMore, Catch}
 use Rattle.resolved.specs.Program.{Program, ResultEntry, procedure_at}
 use Rattle.resolved.specs.Exits.{same_exit, has_exit, statement_exits, block_exits, fault_unless}
 use Rattle.resolved.specs.ExitFaults.{block_faults, handlers_faults}
@@ -162,7 +162,7 @@ record LoopAhead (at : ℕ) (in_loop : Bool) (loop : Loop) : Type 0 where
 sooner : (at end : ℕ) (in_loop : Bool) (loop : Loop) → at ≤ end → LoopAhead end in_loop loop → LoopAhead at in_loop loop
 sooner at end in_loop loop less h = record { beyond = λ e. omega (arith, less, h.beyond e); test = λ e. omega (arith, less, h.test e) }
 
-leave-ahead : (mark at : ℕ) (in_loop : Bool) (loop : Loop) (exit : Exit) → LoopAhead (at + 1) in_loop loop → may_stand in_loop (Leave mark exit) ≡ true → Ahead at (leave_code loop exit ∷ [])
+leave-ahead : (mark at : ℕ) (in_loop : Bool) (loop : Loop) (exit : Exit) → LoopAhead (at + 1) in_loop loop → may_stand in_loop (Placed mark (Leave exit)) ≡ true → Ahead at (leave_code loop exit ∷ [])
 leave-ahead mark at in_loop loop Normal loops h = ahead-one at _ refl
 leave-ahead mark at in_loop loop Return loops h = ahead-one at _ refl
 leave-ahead mark at in_loop loop Break loops h = ahead-jump at loop.beyond [] (omega (arith, loops.beyond h)) (ahead-none (at + 1))
@@ -174,21 +174,21 @@ module _ (program : Program) where
   mutual
     statement-ahead : (loop : Loop) (in_loop : Bool) (p : ℕ) (statement : Statement) → may_stand in_loop statement ≡ true → inner_faults program in_loop statement ≡ []
         → LoopAhead (p + statement_size program statement) in_loop loop → Ahead p (statement_code program loop p statement)
-    statement-ahead loop in_loop p (Assign at x e) stands faults loops =
+    statement-ahead loop in_loop p (Placed at (Assign x e)) stands faults loops =
         ahead-both p (value_size e) (value_code p e) _ (value-sized e p) (value-ahead e p) (ahead-one (p + value_size e) _ (store-still x))
-    statement-ahead loop in_loop p (Clear at slot) stands faults loops = ahead-one p (instruction.Clear slot) refl
-    statement-ahead loop in_loop p (Store at array count index e) stands faults loops =
+    statement-ahead loop in_loop p (Placed at (Clear slot)) stands faults loops = ahead-one p (instruction.Clear slot) refl
+    statement-ahead loop in_loop p (Placed at (Store array count index e)) stands faults loops =
         ahead-both p (value_size index) (value_code p index) _ (value-sized index p) (value-ahead index p)
         (ahead-both (p + value_size index) (value_size e) (value_code (p + value_size index) e) _ (value-sized e (p + value_size index)) (value-ahead e (p + value_size index))
         (ahead-one (p + value_size index + value_size e) _ (store_element-still array)))
-    statement-ahead loop in_loop p (Receive at channel target) stands faults loops =
+    statement-ahead loop in_loop p (Placed at (Receive channel target)) stands faults loops =
         ahead-more p (instruction.Receive channel) _ refl (ahead-one (p + 1) _ (kept-still target))
-    statement-ahead loop in_loop p (Send at channel e) stands faults loops =
+    statement-ahead loop in_loop p (Placed at (Send channel e)) stands faults loops =
         ahead-both p (value_size e) (value_code p e) _ (value-sized e p) (value-ahead e p) (ahead-one (p + value_size e) (instruction.Send channel) refl)
-    statement-ahead loop in_loop p (Call at f arguments target) stands faults loops =
+    statement-ahead loop in_loop p (Placed at (Call f arguments target)) stands faults loops =
         ahead-both p (arguments_size arguments) (arguments_code p arguments) _ (arguments-sized arguments p) (arguments-ahead arguments p)
         (ahead-more (p + arguments_size arguments) (instruction.Call f) _ refl (result-ahead (p + arguments_size arguments + 1) (procedure_at program f).result target))
-    statement-ahead loop in_loop p (If at e then_block else_block) stands faults loops =
+    statement-ahead loop in_loop p (Placed at (If e then_block else_block)) stands faults loops =
         let b = branch_size false e in
         let y = block_size program then_block in
         let j = jumps_over then_block else_block in
@@ -200,7 +200,7 @@ module _ (program : Program) where
         (block-ahead loop in_loop true (p + b) then_block none.0 (sooner (p + b + y) (p + (b + (y + (k + z)))) in_loop loop (omega arith) loops))
         (ahead-both (p + b + y) k (jump_code j (p + b + y + k + z)) _ (jump-sized j (p + b + y + k + z)) (jump-ahead (p + b + y) j (p + b + y + k + z) (omega arith))
         (block-ahead loop in_loop true (p + b + y + k) else_block none.1 (sooner (p + b + y + k + z) (p + (b + (y + (k + z)))) in_loop loop (omega arith) loops))))
-    statement-ahead loop in_loop p (While at number e body) stands faults loops =
+    statement-ahead loop in_loop p (Placed at (While number e body)) stands faults loops =
         let m = block_size program body in
         let b = branch_size true e in
         let inner : Loop = record { beyond = p + 1 + m + b; test = p + 1 + m } in
@@ -208,9 +208,9 @@ module _ (program : Program) where
         (ahead-both (p + 1) m (block_code program inner (p + 1) body) _ (block-sized program inner (p + 1) body)
         (block-ahead inner true true (p + 1) body faults (record { beyond = λ h. omega arith; test = λ h. omega arith }))
         (branch-ahead e true (p + 1 + m) (p + 1)))
-    statement-ahead loop in_loop p (Leave at exit) stands faults loops = leave-ahead at p in_loop loop exit loops stands
-    statement-ahead loop in_loop p (ReturnWith at e) stands faults loops = return-ahead p e
-    statement-ahead loop in_loop p (Try at block handlers) stands faults loops =
+    statement-ahead loop in_loop p (Placed at (Leave exit)) stands faults loops = leave-ahead at p in_loop loop exit loops stands
+    statement-ahead loop in_loop p (Placed at (ReturnWith e)) stands faults loops = return-ahead p e
+    statement-ahead loop in_loop p (Placed at (Try block handlers)) stands faults loops =
         let m = block_size program block in
         let j = jumps_after block handlers in
         let k = jump_size j in
@@ -221,7 +221,7 @@ module _ (program : Program) where
         (ahead-both (p + m) k (jump_code j (p + m + k + z)) _ (jump-sized j (p + m + k + z)) (jump-ahead (p + m) j (p + m + k + z) (omega arith))
         (handlers-ahead loop in_loop (p + m + k + z) (p + m + k) (block_exits program block) handlers none.1 refl
         (sooner (p + m + k + z) (p + (m + (k + z))) in_loop loop (omega arith) loops)))
-    statement-ahead loop in_loop p (Nested at block) stands faults loops = block-ahead loop in_loop true p block faults loops
+    statement-ahead loop in_loop p (Placed at (Nested block)) stands faults loops = block-ahead loop in_loop true p block faults loops
 
     block-ahead : (loop : Loop) (in_loop reached : Bool) (p : ℕ) (block : Block) → block_faults program in_loop reached block ≡ []
         → LoopAhead (p + block_size program block) in_loop loop → Ahead p (block_code program loop p block)

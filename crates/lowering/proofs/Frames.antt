@@ -11,7 +11,8 @@ use Rattle.common.specs.declared.value.Value.{Value}
 use Rattle.common.specs.declared.value.Value.TheVariants.{Int as Number, Bool as Truth}
 use Rattle.common.specs.declared.base_type.BaseType.{BaseType}
 use Rattle.common.specs.declared.base_type.BaseType.TheVariants as base
-use Rattle.resolved.specs.Program.{Program, ProcedureEntry, SlotEntry, GlobalEntry, ChannelEntry}
+use Rattle.labels.specs.Channel.{ChannelContents}
+use Rattle.resolved.specs.Program.{Program, ProcedureEntry, SlotEntry, GlobalEntry}
 use Rattle.resolved.specs.SourceState as source
 use Rattle.common.specs.Values.{kind_of, zero_of}
 use Rattle.resolved.specs.Meaning.{cells_of as first_cells_of, first_cells_of_slots, frame_of}
@@ -29,7 +30,7 @@ use Rattle.modules.specs.Machine.{Caller, Header, header_of, handler_for, first_
 use Rattle.modules.specs.Transitions.{popped}
 use Rattle.modules.specs.MachineParts.{slot_of, code_of, handlers_of, slots_of, kinds_of, first_slot}
 use Rattle.layout.specs.Runs.{graph_program}
-use Rattle.lowering.specs.Interface.{declared_slot, slot_contents, global_contents, scalar_global, channel_contents}
+use Rattle.lowering.specs.Interface.{declared_slot, slot_contents, global_contents, scalar_global}
 use Rattle.lowering.specs.Code.{block_table}
 use Rattle.lowering.specs.Graphs.{body_code}
 use Rattle.lowering.proofs.Unthreaded.{unthreaded_procedure, unthreaded_graph}
@@ -63,7 +64,7 @@ global_there program formed k (Some entry) e =
     (and_parts (size_fits entry.size && label_fits program.hierarchy entry.label) _ (passes_at _ program.globals k entry all_fit e)).1 in
     ap (λ (s : Slot). Some s) (global_same entry entry.size refl (same_base_is (kind_of entry.first) entry.base (and_parts (same_base (kind_of entry.first) entry.base) _ fit).0))
 
-pub direction_same : (o : Option ChannelEntry) → option_map (λ entry. (channel_contents entry).direction) o ≡ direction_in o
+pub direction_same : (o : Option ChannelContents) → option_map (λ (entry : ChannelContents). entry.direction) o ≡ direction_in o
 direction_same None = refl
 direction_same (Some entry) = refl
 
@@ -99,9 +100,7 @@ setting_of program formed world f entry there callers =
       locals_there = λ k. ap (λ (o : Option Header). slice_get (slots_of o) k) heads ∙ slice_get-map slot_contents entry.slots k ∙ slot_same (slice_get entry.slots k);
       globals_there = λ k. slice_get-map slot_of (map global_contents program.globals) k ∙ ap (option_map slot_of) (slice_get-map global_contents program.globals k)
           ∙ option_twice global_contents slot_of (slice_get program.globals k) ∙ global_there program formed k (slice_get program.globals k) refl;
-      channels_there = λ k. slice_get-map (λ (channel : Rattle.modules.specs.Contents.ChannelContents). channel.direction) (map channel_contents program.channels) k
-          ∙ ap (option_map (λ (channel : Rattle.modules.specs.Contents.ChannelContents). channel.direction)) (slice_get-map channel_contents program.channels k)
-          ∙ option_twice channel_contents (λ (channel : Rattle.modules.specs.Contents.ChannelContents). channel.direction) (slice_get program.channels k) ∙ direction_same (slice_get program.channels k);
+      channels_there = λ k. slice_get-map (λ (channel : ChannelContents). channel.direction) program.channels k ∙ direction_same (slice_get program.channels k);
       exceptions_there = refl;
     }
 

@@ -10,7 +10,7 @@ use Rattle.resolved.specs.FaultParts.{place_of, may_stand, inner_faults, may_exi
 use Rattle.resolved.specs.declared.expression.Variable.{Variable}
 use Rattle.resolved.specs.declared.statement.Exit.{Exit}
 use Rattle.resolved.specs.declared.statement.Exit.TheVariants.{Normal, Return, Break, Continue, Throw}
-use Rattle.resolved.specs.Tree.{Expression, Statement, Assign, Clear, Store, Receive, Send, Call, If, While, Leave, ReturnWith, Try, Nested, Block, Empty, Then, Handlers, NoMore, Catch}
+use Rattle.resolved.specs.Tree.{Expression, Statement, Placed, Assign, Clear, Store, Receive, Send, Call, If, While, Leave, ReturnWith, Try, Nested, Block, Empty, Then, Handlers, NoMore, Catch}
 use Rattle.resolved.specs.Program.{Program, ProcedureEntry, ResultEntry, procedure_at}
 use Rattle.resolved.specs.Exits.{same_exit, has_exit, statement_exits, block_exits, fault_unless}
 use Rattle.resolved.specs.ExitFaults.{block_faults, handlers_faults, procedure_faults}
@@ -38,14 +38,14 @@ use Rattle.resolved.proofs.Judged.{faults-apart}
 -- ---- truth values
 
 -- ---- code with its handlers
-record Placed (n : ℕ) (made : List Instruction) (table : List Handler) : Type 0 where
+record GoesWithin (n : ℕ) (made : List Instruction) (table : List Handler) : Type 0 where
   pub code : Stays n made
   pub entries : All (IsHandlerIn n) table
 
-plain : {n : ℕ} {code : List Instruction} → Stays n code → Placed n code []
+plain : {n : ℕ} {code : List Instruction} → Stays n code → GoesWithin n code []
 plain {n = n} h = record { code = h; entries = All-nil (IsHandlerIn n) }
 
-placed-both : {n : ℕ} {xs ys : List Instruction} {es fs : List Handler} → Placed n xs es → Placed n ys fs → Placed n (xs ++ ys) (es ++ fs)
+placed-both : {n : ℕ} {xs ys : List Instruction} {es fs : List Handler} → GoesWithin n xs es → GoesWithin n ys fs → GoesWithin n (xs ++ ys) (es ++ fs)
 placed-both {n = n} {xs = xs} {ys = ys} {es = es} {fs = fs} h k =
     record { code = both-below n xs ys h.code k.code; entries = All-append (IsHandlerIn n) es fs h.entries k.entries }
 
@@ -63,13 +63,13 @@ record LoopIn (n : ℕ) (in_loop : Bool) (loop : Loop) : Type 0 where
 module _ (program : Program) where
   mutual
     statement-filled : (statement : Statement) → statement_falls statement ≡ false → 1 ≤ statement_size program statement
-    statement-filled (If at e then_block else_block) falls = omega (arith, branch-filled e false)
-    statement-filled (Leave at exit) falls = omega arith
-    statement-filled (ReturnWith at None) falls = omega arith
-    statement-filled (ReturnWith at (Some e)) falls = omega arith
-    statement-filled (Try at block handlers) falls =
+    statement-filled (Placed at (If e then_block else_block)) falls = omega (arith, branch-filled e false)
+    statement-filled (Placed at (Leave exit)) falls = omega arith
+    statement-filled (Placed at (ReturnWith None)) falls = omega arith
+    statement-filled (Placed at (ReturnWith (Some e))) falls = omega arith
+    statement-filled (Placed at (Try block handlers)) falls =
         omega (arith, block-filled block (or_parts (block_falls block) (handlers_fall handlers) falls).0)
-    statement-filled (Nested at block) falls = block-filled block falls
+    statement-filled (Placed at (Nested block)) falls = block-filled block falls
     statement-filled _ falls = absurd (let no : true ≡ false = falls in cc)
 
     block-filled : (block : Block) → block_falls block ≡ false → 1 ≤ block_size program block
@@ -92,7 +92,7 @@ result-below : (n : ℕ) (result : Option ResultEntry) (target : Option Variable
 result-below n None target = none-below n
 result-below n (Some entry) target = one-below n _ (kept-below n target)
 
-leave-below : (mark n : ℕ) (in_loop : Bool) (loop : Loop) (exit : Exit) → LoopIn n in_loop loop → may_stand in_loop (Leave mark exit) ≡ true → Below n (leave_code loop exit)
+leave-below : (mark n : ℕ) (in_loop : Bool) (loop : Loop) (exit : Exit) → LoopIn n in_loop loop → may_stand in_loop (Placed mark (Leave exit)) ≡ true → Below n (leave_code loop exit)
 leave-below mark n in_loop loop Normal loops h = tt
 leave-below mark n in_loop loop Return loops h = tt
 leave-below mark n in_loop loop Break loops h = loops.beyond h
@@ -121,7 +121,7 @@ entry-in n start end exception target within inside_code = by (nat_lt start end)
 module _ (program : Program) (procedure : ProcedureEntry) (n : ℕ) where
   -- nothing stands where no statement ends normally
   unreached : (loop : Loop) (in_loop reached : Bool) (p : ℕ) (block : Block) → reached ≡ false → block_faults program in_loop reached block ≡ []
-      → Placed n (block_code program loop p block) (block_table program p block)
+      → GoesWithin n (block_code program loop p block) (block_table program p block)
   unreached loop in_loop reached p Empty h faults = plain (none-below n)
   unreached loop in_loop reached p (Then statement rest) h faults =
       let first = fault_unless (may_stand in_loop statement) OutsideLoop (place_of statement) in
@@ -135,21 +135,21 @@ module _ (program : Program) (procedure : ProcedureEntry) (n : ℕ) where
     statement-placed : (loop : Loop) (in_loop : Bool) (p : ℕ) (statement : Statement) → statement_fits program procedure statement ≡ true
         → may_stand in_loop statement ≡ true → inner_faults program in_loop statement ≡ [] → LoopIn n in_loop loop
         → EndsIn n (p + statement_size program statement) (statement_falls statement)
-        → Placed n (statement_code program loop p statement) (statement_table program p statement)
-    statement-placed loop in_loop p (Assign at x e) fits stands faults loops ends =
+        → GoesWithin n (statement_code program loop p statement) (statement_table program p statement)
+    statement-placed loop in_loop p (Placed at (Assign x e)) fits stands faults loops ends =
         plain (both-below n (value_code p e) _ (value-below e p n (omega (arith, ends.within))) (one-below n _ (store-below n x)))
-    statement-placed loop in_loop p (Clear at slot) fits stands faults loops ends = plain (one-below n (instruction.Clear slot) tt)
-    statement-placed loop in_loop p (Store at array size index e) fits stands faults loops ends =
+    statement-placed loop in_loop p (Placed at (Clear slot)) fits stands faults loops ends = plain (one-below n (instruction.Clear slot) tt)
+    statement-placed loop in_loop p (Placed at (Store array size index e)) fits stands faults loops ends =
         plain (both-below n (value_code p index) _ (value-below index p n (omega (arith, ends.within)))
         (both-below n (value_code (p + value_size index) e) _ (value-below e (p + value_size index) n (omega (arith, ends.within))) (one-below n _ (store_element-below n array))))
-    statement-placed loop in_loop p (Receive at channel target) fits stands faults loops ends =
+    statement-placed loop in_loop p (Placed at (Receive channel target)) fits stands faults loops ends =
         plain (more-below n (instruction.Receive channel) _ tt (one-below n _ (kept-below n target)))
-    statement-placed loop in_loop p (Send at channel e) fits stands faults loops ends =
+    statement-placed loop in_loop p (Placed at (Send channel e)) fits stands faults loops ends =
         plain (both-below n (value_code p e) _ (value-below e p n (omega (arith, ends.within))) (one-below n (instruction.Send channel) tt))
-    statement-placed loop in_loop p (Call at f arguments target) fits stands faults loops ends =
+    statement-placed loop in_loop p (Placed at (Call f arguments target)) fits stands faults loops ends =
         plain (both-below n (arguments_code p arguments) _ (arguments-below arguments p n (omega (arith, ends.within)))
         (more-below n (instruction.Call f) _ tt (result-below n (procedure_at program f).result target)))
-    statement-placed loop in_loop p (If at e then_block else_block) fits stands faults loops ends =
+    statement-placed loop in_loop p (Placed at (If e then_block else_block)) fits stands faults loops ends =
         let b = branch_size false e in
         let y = block_size program then_block in
         let j = jumps_over then_block else_block in
@@ -168,7 +168,7 @@ module _ (program : Program) (procedure : ProcedureEntry) (n : ℕ) where
         (placed-both (block-placed loop in_loop true (p + b) then_block yes_fits no_fault.0 loops yes_exits)
         (placed-both (plain (jump-below n j (p + b + y + k + z) over))
         (block-placed loop in_loop true (p + b + y + k) else_block parts.1 no_fault.1 loops no_exits)))
-    statement-placed loop in_loop p (While at number e body) fits stands faults loops ends =
+    statement-placed loop in_loop p (Placed at (While number e body)) fits stands faults loops ends =
         let m = block_size program body in
         let b = branch_size true e in
         let strict : p + (1 + (m + b)) < n = ends.strict refl in
@@ -181,9 +181,9 @@ module _ (program : Program) (procedure : ProcedureEntry) (n : ℕ) where
               (both-below n (block_code program inner (p + 1) body) _ placed.code (branch-below e true (p + 1 + m) (p + 1) n (omega (arith, strict)) (omega (arith, strict))));
           entries = placed.entries;
         }
-    statement-placed loop in_loop p (Leave at exit) fits stands faults loops ends = plain (one-below n _ (leave-below at n in_loop loop exit loops stands))
-    statement-placed loop in_loop p (ReturnWith at e) fits stands faults loops ends = plain (return-below n p e ends.within)
-    statement-placed loop in_loop p (Try at block handlers) fits stands faults loops ends =
+    statement-placed loop in_loop p (Placed at (Leave exit)) fits stands faults loops ends = plain (one-below n _ (leave-below at n in_loop loop exit loops stands))
+    statement-placed loop in_loop p (Placed at (ReturnWith e)) fits stands faults loops ends = plain (return-below n p e ends.within)
+    statement-placed loop in_loop p (Placed at (Try block handlers)) fits stands faults loops ends =
         let m = block_size program block in
         let j = jumps_after block handlers in
         let k = jump_size j in
@@ -198,11 +198,11 @@ module _ (program : Program) (procedure : ProcedureEntry) (n : ℕ) where
         (placed-both (plain (jump-below n j (p + m + k + z) over))
         (handlers-placed loop in_loop p (p + m) (p + m + k + z) (p + m + k) (block_exits program block) handlers parts.1 no_fault.1 loops (omega (arith, within)) refl
         (record { within = omega (arith, within); strict = λ h. omega (arith, second h) })))
-    statement-placed loop in_loop p (Nested at block) fits stands faults loops ends = block-placed loop in_loop true p block fits faults loops ends
+    statement-placed loop in_loop p (Placed at (Nested block)) fits stands faults loops ends = block-placed loop in_loop true p block fits faults loops ends
 
     block-placed : (loop : Loop) (in_loop reached : Bool) (p : ℕ) (block : Block) → block_fits program procedure block ≡ true
         → block_faults program in_loop reached block ≡ [] → LoopIn n in_loop loop → EndsIn n (p + block_size program block) (block_falls block)
-        → Placed n (block_code program loop p block) (block_table program p block)
+        → GoesWithin n (block_code program loop p block) (block_table program p block)
     block-placed loop in_loop reached p Empty fits faults loops ends = plain (none-below n)
     block-placed loop in_loop reached p (Then statement rest) fits faults loops ends =
         let m = statement_size program statement in
@@ -227,7 +227,7 @@ module _ (program : Program) (procedure : ProcedureEntry) (n : ℕ) where
     handlers-placed : (loop : Loop) (in_loop : Bool) (start end beyond p : ℕ) (ends : List Exit) (handlers : Handlers)
         → handlers_fit program procedure handlers ≡ true → handlers_faults program in_loop ends handlers ≡ [] → LoopIn n in_loop loop
         → end ≤ n → p + handlers_size program handlers ≡ beyond → EndsIn n beyond (handlers_fall handlers)
-        → Placed n (handlers_code program loop beyond p handlers) (handlers_table program start end p handlers)
+        → GoesWithin n (handlers_code program loop beyond p handlers) (handlers_table program start end p handlers)
     handlers-placed loop in_loop start end beyond p ends NoMore fits faults loops tried size last = plain (none-below n)
     handlers-placed loop in_loop start end beyond p ends (Catch at exception body rest) fits faults loops tried size last =
         let m = block_size program body in

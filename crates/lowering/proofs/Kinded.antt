@@ -12,7 +12,8 @@ use Rattle.common.specs.declared.operator.Operator.{Operator}
 use Rattle.common.specs.declared.operator.Operator.TheVariants as operator
 use Rattle.common.specs.declared.direction.Direction.TheVariants as direction
 use Rattle.common.proofs.Cases.{none_there}
-use Rattle.resolved.specs.Program.{Program, ProcedureEntry, SlotEntry, ChannelEntry}
+use Rattle.labels.specs.Channel.{ChannelContents}
+use Rattle.resolved.specs.Program.{Program, ProcedureEntry, SlotEntry}
 use Rattle.resolved.specs.WellFormed.{VariableType, variable_type, scalar_by, array_by, has_length, channel_is, prefix_base, operand_base, result_base}
 use Rattle.modules.specs.Contents.{ProcedureContents, ModuleContents}
 use Rattle.modules.specs.Machine.{machine_code, header_of, parameter_kinds}
@@ -92,7 +93,7 @@ array-type (Some type) size test h =
     by (Some count) e sized passes =
         record { base = type.base; count = count; passes = passes; is = ap (λ (size : Option ℕ). Some (declared_slot type.base size)) e }
 
-pub input-is : (o : Option ChannelEntry) → channel_is o direction.Input ≡ true → is_input (direction_in o) ≡ true
+pub input-is : (o : Option ChannelContents) → channel_is o direction.Input ≡ true → is_input (direction_in o) ≡ true
 input-is None h = absurd (let no : false ≡ true = h in cc)
 input-is (Some entry) h = by entry.direction h
   where
@@ -100,7 +101,7 @@ input-is (Some entry) h = by entry.direction h
     by direction.Input h = refl
     by direction.Output h = absurd (let no : false ≡ true = h in cc)
 
-pub output-is : (o : Option ChannelEntry) → channel_is o direction.Output ≡ true → is_output (direction_in o) ≡ true
+pub output-is : (o : Option ChannelContents) → channel_is o direction.Output ≡ true → is_output (direction_in o) ≡ true
 output-is None h = absurd (let no : false ≡ true = h in cc)
 output-is (Some entry) h = by entry.direction h
   where

@@ -12,6 +12,7 @@ use Rattle.resolved.specs.declared.statement.Exit.TheVariants as exit
 use Rattle.common.specs.declared.direction.Direction.{Direction}
 use Rattle.common.specs.declared.direction.Direction.TheVariants.{Input, Output}
 use Rattle.resolved.specs.Tree.{Expression}
+use Rattle.labels.specs.Channel.{ChannelContents}
 use Rattle.resolved.specs.Program as resolved
 use Rattle.resolved.specs.SourceState as source
 use Rattle.resolved.specs.SourceState.{value_of, cells, cell_at, assigned, stored, cleared, with_cells}
@@ -70,7 +71,7 @@ module _ (g : Setting) (loop : Loop) (h : ℕ → Option ℕ) (k : ℕ) (s : sou
       by Output e = refl
       by Input e = absurd (let no : false ≡ true = e in cc)
 
-      go : (o : Option resolved.ChannelEntry) → channel_is o Output ≡ true → direction_in o ≡ Some Output
+      go : (o : Option ChannelContents) → channel_is o Output ≡ true → direction_in o ≡ Some Output
       go None e = absurd (let no : false ≡ true = e in cc)
       go (Some entry) e = by entry.direction e
 

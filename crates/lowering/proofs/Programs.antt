@@ -14,7 +14,8 @@ use Rattle.resolved.specs.declared.statement.Exit.TheVariants.{Normal, Return, B
 use Rattle.common.specs.declared.direction.Direction.{Direction}
 use Rattle.common.specs.declared.direction.Direction.TheVariants.{Input, Output}
 use Rattle.common.proofs.Cases.{none_there}
-use Rattle.resolved.specs.Program.{Program, ProcedureEntry, ResultEntry, GlobalEntry, ChannelEntry, channel_at, procedure_at}
+use Rattle.labels.specs.Channel.{ChannelContents}
+use Rattle.resolved.specs.Program.{Program, ProcedureEntry, ResultEntry, GlobalEntry, channel_at, procedure_at}
 use Rattle.resolved.specs.SourceState as source
 use Rattle.common.specs.Values.{kind_of}
 use Rattle.resolved.specs.Exits.{thrown_exits, declared_by}
@@ -82,7 +83,7 @@ global_begins program formed k (Some entry) e =
     let two = and_parts (same_base (kind_of entry.first) entry.base) (is_none entry.size || is_zero_value entry.first) fit in
     sized_begins entry entry.size refl (same_base_is (kind_of entry.first) entry.base two.0) two.1
 
-rest_begins : (channels : List ChannelEntry) (none : ChannelEntry) (c : ℕ) (numbers : List ℤ)
+rest_begins : (channels : List ChannelContents) (none : ChannelContents) (c : ℕ) (numbers : List ℤ)
     → numbers ≡ left_of (slice_get channels c) (numbers_by (slice_index_or channels c none).direction numbers) numbers
 rest_begins [] none c numbers = refl
 rest_begins (entry ∷ rest) none (suc c) numbers = rest_begins rest none c numbers

@@ -5,7 +5,7 @@ use Rattle.std.proofs.lemmas.Bool.{leb-true}
 use Rattle.std.proofs.lemmas.List.Sums.{get_or-le-sum_by, sum_by-cons}
 use Rattle.resolved.proofs.WellFormedParts.{program_parts}
 use Rattle.common.specs.declared.operator.Prefix.TheVariants as prefix
-use Rattle.resolved.specs.Tree.{Expression, Integer, Logical, Read, Element, Unary, Binary, Short, Statement, Assign, Clear, Store, Receive, Send, Call, If, While, Leave, ReturnWith, Try, Nested, Block, Empty, Then, Handlers, NoMore, Catch}
+use Rattle.resolved.specs.Tree.{Expression, Integer, Logical, Read, Element, Unary, Binary, Short, Statement, Placed, Assign, Clear, Store, Receive, Send, Call, If, While, Leave, ReturnWith, Try, Nested, Block, Empty, Then, Handlers, NoMore, Catch}
 use Rattle.resolved.specs.Program.{Program, ProcedureEntry, ResultEntry, procedure_at}
 use Rattle.resolved.specs.WellFormed.{expression_nodes, some_nodes, statement_nodes, block_nodes, handlers_nodes, procedure_nodes, program_nodes, node_limit, well_formed}
 use Rattle.lowering.specs.Expressions.{value_size, arguments_size, branch_size, deciding}
@@ -59,20 +59,20 @@ return-room (Some e) = omega (arith, value-room e)
 
 mutual
   statement-room : (program : Program) (statement : Statement) → statement_size program statement ≤ 4 * statement_nodes statement
-  statement-room program (Assign at x e) = omega (arith, value-room e)
-  statement-room program (Clear at slot) = omega arith
-  statement-room program (Store at array n index e) = omega (arith, value-room index, value-room e)
-  statement-room program (Receive at channel target) = omega arith
-  statement-room program (Send at channel e) = omega (arith, value-room e)
-  statement-room program (Call at f arguments target) = omega (arith, arguments-room arguments, result-room (procedure_at program f).result)
-  statement-room program (If at e then_block else_block) =
+  statement-room program (Placed at (Assign x e)) = omega (arith, value-room e)
+  statement-room program (Placed at (Clear slot)) = omega arith
+  statement-room program (Placed at (Store array n index e)) = omega (arith, value-room index, value-room e)
+  statement-room program (Placed at (Receive channel target)) = omega arith
+  statement-room program (Placed at (Send channel e)) = omega (arith, value-room e)
+  statement-room program (Placed at (Call f arguments target)) = omega (arith, arguments-room arguments, result-room (procedure_at program f).result)
+  statement-room program (Placed at (If e then_block else_block)) =
       omega (arith, branch-room e false, block-room program then_block, jump-room (jumps_over then_block else_block), block-room program else_block)
-  statement-room program (While at number e body) = omega (arith, block-room program body, branch-room e true)
-  statement-room program (Leave at exit) = omega arith
-  statement-room program (ReturnWith at e) = omega (arith, return-room e)
-  statement-room program (Try at block handlers) =
+  statement-room program (Placed at (While number e body)) = omega (arith, block-room program body, branch-room e true)
+  statement-room program (Placed at (Leave exit)) = omega arith
+  statement-room program (Placed at (ReturnWith e)) = omega (arith, return-room e)
+  statement-room program (Placed at (Try block handlers)) =
       omega (arith, block-room program block, jump-room (jumps_after block handlers), handlers-room program handlers)
-  statement-room program (Nested at block) = omega (arith, block-room program block)
+  statement-room program (Placed at (Nested block)) = omega (arith, block-room program block)
 
   pub block-room : (program : Program) (block : Block) → block_size program block ≤ 4 * block_nodes block
   block-room program Empty = omega arith

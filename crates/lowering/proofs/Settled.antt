@@ -11,7 +11,7 @@ use Rattle.resolved.specs.declared.expression.Variable.TheVariants.{Local}
 use Rattle.resolved.specs.declared.statement.Exit.{Exit}
 use Rattle.resolved.specs.declared.statement.Exit.TheVariants.{Normal, Return, Break, Continue, Throw}
 use Rattle.common.specs.declared.direction.Direction.TheVariants.{Input, Output}
-use Rattle.resolved.specs.Tree.{Expression, Statement, Assign, Clear, Store, Receive, Send, Call, If, While, Leave, ReturnWith, Try, Nested, Block, Empty, Then, Handlers, NoMore, Catch}
+use Rattle.resolved.specs.Tree.{Expression, Statement, Placed, Assign, Clear, Store, Receive, Send, Call, If, While, Leave, ReturnWith, Try, Nested, Block, Empty, Then, Handlers, NoMore, Catch}
 use Rattle.resolved.specs.Program.{Program, ProcedureEntry, ResultEntry, SlotEntry, procedure_at}
 use Rattle.resolved.specs.Exits.{same_exit, has_exit, statement_exits, block_exits, fault_unless}
 use Rattle.resolved.specs.ExitFaults.{block_faults, handlers_faults}
@@ -221,7 +221,7 @@ module _ (program : Program) (procedure : ProcedureEntry) (m : ModuleContents) (
       subst (λ (c : ProcedureEntry). Flows m p whole at (arguments_code at arguments ++ instruction.Call f ∷ result_code c.result target) (Unit {0}) [] [])
       (sym (procedure_at_is program f callee there)) (called-flows at f callee arguments target there fits)
 
-  leave-flows : (mark : ℕ) (in_loop : Bool) (loop : Loop) (exit : Exit) (at : ℕ) → may_leave_by program exit ≡ true → may_stand in_loop (Leave mark exit) ≡ true
+  leave-flows : (mark : ℕ) (in_loop : Bool) (loop : Loop) (exit : Exit) (at : ℕ) → may_leave_by program exit ≡ true → may_stand in_loop (Placed mark (Leave exit)) ≡ true
       → Flows m p whole at (leave_code loop exit ∷ []) (LoopFlows m p whole in_loop loop) [] []
   leave-flows mark in_loop loop Normal at fits stands = absurd (let no : false ≡ true = fits in cc)
   leave-flows mark in_loop loop Return at fits stands = absurd (let no : false ≡ true = fits in cc)
@@ -236,7 +236,7 @@ module _ (program : Program) (procedure : ProcedureEntry) (m : ModuleContents) (
       flows-both m p whole (value_size e) (value-sized e at) (value-flows program procedure m p whole stated e entry.base at [] fits)
       (flows-one m p whole (return_value-does m p entry.base (stated.returned_is ∙ ap returned_kind is)))
 
-  return-flows : (at : ℕ) (e : Option Expression) (mark : ℕ) → statement_fits program procedure (ReturnWith mark e) ≡ true
+  return-flows : (at : ℕ) (e : Option Expression) (mark : ℕ) → statement_fits program procedure (Placed mark (ReturnWith e)) ≡ true
       → Flows m p whole at (return_code at e) (Unit {0}) [] []
   return-flows at None mark fits = flows-one m p whole (return-does m p (stated.returned_is ∙ ap returned_kind (none_there procedure.result fits)))
   return-flows at (Some e) mark fits = value-returned at procedure.result e refl fits
@@ -248,7 +248,7 @@ module _ (program : Program) (procedure : ProcedureEntry) (m : ModuleContents) (
       flows-both m p whole (value_size e) (value-sized e at) (value-flows program procedure m p whole stated e found.base at [] found.passes)
       (flows-one m p whole (store-does m p x found.base [] (stated.variables_there x ∙ found.is)))
 
-  store-flows : (at : ℕ) (array : Variable) (size : ℕ) (index e : Expression) (mark : ℕ) → statement_fits program procedure (Store mark array size index e) ≡ true
+  store-flows : (at : ℕ) (array : Variable) (size : ℕ) (index e : Expression) (mark : ℕ) → statement_fits program procedure (Placed mark (Store array size index e)) ≡ true
       → Flows m p whole at (value_code at index ++ (value_code (at + value_size index) e ++ store_element_of array ∷ [])) (Unit {0}) [] []
   store-flows at array size index e mark fits =
       let test : BaseType → Bool = λ b. has_base program procedure b e in
@@ -259,7 +259,7 @@ module _ (program : Program) (procedure : ProcedureEntry) (m : ModuleContents) (
       (value-flows program procedure m p whole stated e found.base (at + value_size index) (Int ∷ []) found.passes)
       (flows-one m p whole (store_element-does m p array found.base found.count [] (stated.variables_there array ∙ found.is))))
 
-  receive-flows : (at channel : ℕ) (target : Option Variable) (mark : ℕ) → statement_fits program procedure (Receive mark channel target) ≡ true
+  receive-flows : (at channel : ℕ) (target : Option Variable) (mark : ℕ) → statement_fits program procedure (Placed mark (Receive channel target)) ≡ true
       → Flows m p whole at (instruction.Receive channel ∷ kept_code target ∷ []) (Unit {0}) [] []
   receive-flows at channel target mark fits =
       let parts = and_parts (channel_is (slice_get program.channels channel) Input) (target_by program procedure target (same_base base.Int)) fits in
@@ -268,7 +268,7 @@ module _ (program : Program) (procedure : ProcedureEntry) (m : ModuleContents) (
       (ap (λ (o : Option Direction). is_input o) (stated.channels_there channel) ∙ input-is (slice_get program.channels channel) parts.0)))
       (flows-one m p whole (kept-does target base.Int (same_base base.Int) (λ b e. sym (same_base_is base.Int b e)) parts.1))
 
-  send-flows : (at channel : ℕ) (e : Expression) (mark : ℕ) → statement_fits program procedure (Send mark channel e) ≡ true
+  send-flows : (at channel : ℕ) (e : Expression) (mark : ℕ) → statement_fits program procedure (Placed mark (Send channel e)) ≡ true
       → Flows m p whole at (value_code at e ++ instruction.Send channel ∷ []) (Unit {0}) [] []
   send-flows at channel e mark fits =
       let parts = and_parts (channel_is (slice_get program.channels channel) Output) (has_base program procedure base.Int e) fits in
@@ -289,14 +289,14 @@ module _ (program : Program) (procedure : ProcedureEntry) (m : ModuleContents) (
     pub statement-settles : (loop : Loop) (in_loop : Bool) (position : ℕ) (statement : Statement) → statement_fits program procedure statement ≡ true
         → may_stand in_loop statement ≡ true → inner_faults program in_loop statement ≡ []
         → Settles m p whole position (statement_code program loop position statement) (statement_table program position statement) (LoopFlows m p whole in_loop loop)
-    statement-settles loop in_loop position (Assign mark x e) fits stands faults = free (assign-flows position x e fits)
-    statement-settles loop in_loop position (Clear mark k) fits stands faults = free (clear-flows position k fits)
-    statement-settles loop in_loop position (Store mark array size index e) fits stands faults = free (store-flows position array size index e mark fits)
-    statement-settles loop in_loop position (Receive mark channel target) fits stands faults = free (receive-flows position channel target mark fits)
-    statement-settles loop in_loop position (Send mark channel e) fits stands faults = free (send-flows position channel e mark fits)
-    statement-settles loop in_loop position (Call mark f arguments target) fits stands faults =
+    statement-settles loop in_loop position (Placed mark (Assign x e)) fits stands faults = free (assign-flows position x e fits)
+    statement-settles loop in_loop position (Placed mark (Clear k)) fits stands faults = free (clear-flows position k fits)
+    statement-settles loop in_loop position (Placed mark (Store array size index e)) fits stands faults = free (store-flows position array size index e mark fits)
+    statement-settles loop in_loop position (Placed mark (Receive channel target)) fits stands faults = free (receive-flows position channel target mark fits)
+    statement-settles loop in_loop position (Placed mark (Send channel e)) fits stands faults = free (send-flows position channel e mark fits)
+    statement-settles loop in_loop position (Placed mark (Call f arguments target)) fits stands faults =
         free (call-flows position f (slice_get program.procedures f) arguments target refl fits)
-    statement-settles loop in_loop position (If mark e then_block else_block) fits stands faults =
+    statement-settles loop in_loop position (Placed mark (If e then_block else_block)) fits stands faults =
         let b = branch_size false e in
         let y = block_size program then_block in
         let j = jumps_over then_block else_block in
@@ -311,7 +311,7 @@ module _ (program : Program) (procedure : ProcedureEntry) (m : ModuleContents) (
         (branch-sized e false position other) (block-sized program loop (position + b) then_block) (jump-sized j (other + z)) (block-sized program loop other else_block)
         (branch-flows program procedure m p whole stated e false position other [] first.0)
         (block-settles loop in_loop true (position + b) then_block first.1 none.0) (block-settles loop in_loop true other else_block parts.1 none.1)
-    statement-settles loop in_loop position (While mark number e body) fits stands faults =
+    statement-settles loop in_loop position (Placed mark (While number e body)) fits stands faults =
         let n = block_size program body in
         let b = branch_size true e in
         let inner : Loop = record { beyond = position + 1 + n + b; test = position + 1 + n } in
@@ -321,9 +321,9 @@ module _ (program : Program) (procedure : ProcedureEntry) (m : ModuleContents) (
         (block-sized program inner (position + 1) body) (branch-sized e true (position + 1 + n) (position + 1))
         (block-settles inner true true (position + 1) body parts.1 faults)
         (branch-flows program procedure m p whole stated e true (position + 1 + n) (position + 1) [] parts.0)
-    statement-settles loop in_loop position (Leave mark exit) fits stands faults = settles-plain m p whole (leave-flows mark in_loop loop exit position fits stands)
-    statement-settles loop in_loop position (ReturnWith mark e) fits stands faults = free (return-flows position e mark fits)
-    statement-settles loop in_loop position (Try mark block handlers) fits stands faults =
+    statement-settles loop in_loop position (Placed mark (Leave exit)) fits stands faults = settles-plain m p whole (leave-flows mark in_loop loop exit position fits stands)
+    statement-settles loop in_loop position (Placed mark (ReturnWith e)) fits stands faults = free (return-flows position e mark fits)
+    statement-settles loop in_loop position (Placed mark (Try block handlers)) fits stands faults =
         let n = block_size program block in
         let j = jumps_after block handlers in
         let k = jump_size j in
@@ -336,7 +336,7 @@ module _ (program : Program) (procedure : ProcedureEntry) (m : ModuleContents) (
         (block-sized program loop position block) (jump-sized j beyond) (handlers-sized program loop beyond (position + n + k) handlers)
         (block-settles loop in_loop true position block parts.0 none.0)
         (handlers-settle loop in_loop position (position + n) beyond (position + n + k) (block_exits program block) handlers parts.1 none.1)
-    statement-settles loop in_loop position (Nested mark block) fits stands faults = block-settles loop in_loop true position block fits faults
+    statement-settles loop in_loop position (Placed mark (Nested block)) fits stands faults = block-settles loop in_loop true position block fits faults
 
     pub block-settles : (loop : Loop) (in_loop reached : Bool) (position : ℕ) (block : Block) → block_fits program procedure block ≡ true
         → block_faults program in_loop reached block ≡ []

@@ -13,6 +13,7 @@ use Rattle.resolved.specs.declared.statement.Exit.TheVariants as exit
 use Rattle.common.specs.declared.direction.Direction.{Direction}
 use Rattle.common.specs.declared.direction.Direction.TheVariants.{Input, Output}
 use Rattle.common.proofs.Cases.{none_there}
+use Rattle.labels.specs.Channel.{ChannelContents}
 use Rattle.resolved.specs.Program as resolved
 use Rattle.resolved.specs.SourceState as source
 use Rattle.resolved.specs.SourceState.{value_of, cells, cell_at, assigned, stored, cleared, with_cells}
@@ -113,7 +114,7 @@ module _ (g : Setting) (loop : Loop) (h : ℕ → Option ℕ) (k : ℕ) (s : sou
   taken_state channel numbers at operands is_input =
       ap (λ (rest : ℕ → List ℤ). record (state_at g at operands s) { rest = rest }) (fun_ext (λ m. go m (eqb m channel) refl))
     where
-      input_left : (o : Option resolved.ChannelEntry) (whole : List ℤ) → channel_is o Input ≡ true → left_of o numbers whole ≡ numbers
+      input_left : (o : Option ChannelContents) (whole : List ℤ) → channel_is o Input ≡ true → left_of o numbers whole ≡ numbers
       input_left None whole e = absurd (let no : false ≡ true = e in cc)
       input_left (Some entry) whole e = by entry.direction e
         where
@@ -139,7 +140,7 @@ module _ (g : Setting) (loop : Loop) (h : ℕ → Option ℕ) (k : ℕ) (s : sou
       by Input e = (refl, refl)
       by Output e = absurd (let no : false ≡ true = e in cc)
 
-      go : (o : Option resolved.ChannelEntry) → channel_is o Input ≡ true
+      go : (o : Option ChannelContents) → channel_is o Input ≡ true
           → (left_of o (s.inputs channel) (g.world channel) ≡ s.inputs channel) × (direction_in o ≡ Some Input)
       go None e = absurd (let no : false ≡ true = e in cc)
       go (Some entry) e = by entry.direction e

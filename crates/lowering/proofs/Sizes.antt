@@ -6,7 +6,7 @@ use Rattle.resolved.specs.declared.expression.Variable.{Variable}
 use Rattle.common.specs.declared.operator.Prefix.TheVariants as prefix
 use Rattle.common.specs.declared.operator.Connective.{Connective}
 use Rattle.common.specs.declared.operator.Connective.TheVariants.{And, Or}
-use Rattle.resolved.specs.Tree.{Expression, Integer, Logical, Read, Element, Unary, Binary, Short, Statement, Assign, Clear, Store, Receive, Send, Call, If, While, Leave, ReturnWith, Try, Nested, Block, Empty, Then, Handlers, NoMore, Catch}
+use Rattle.resolved.specs.Tree.{Expression, Integer, Logical, Read, Element, Unary, Binary, Short, Statement, Placed, Assign, Clear, Store, Receive, Send, Call, If, While, Leave, ReturnWith, Try, Nested, Block, Empty, Then, Handlers, NoMore, Catch}
 use Rattle.resolved.specs.Program.{Program, ResultEntry, procedure_at}
 use Rattle.modules.specs.declared.instruction.Instruction.{Instruction}
 use Rattle.modules.specs.declared.instruction.Instruction.TheVariants as instruction
@@ -76,18 +76,18 @@ return_sized at (Some e) = both_sized (value_code at e) (instruction.ReturnValue
 
 mutual
   pub statement-sized : (program : Program) (loop : Loop) (position : ℕ) (statement : Statement) → length (statement_code program loop position statement) ≡ statement_size program statement
-  statement-sized program loop position (Assign at x e) = both_sized (value_code position e) (store_of x ∷ []) (value_size e) 1 (value-sized e position) refl
-  statement-sized program loop position (Clear at slot) = refl
-  statement-sized program loop position (Store at array n index e) =
+  statement-sized program loop position (Placed at (Assign x e)) = both_sized (value_code position e) (store_of x ∷ []) (value_size e) 1 (value-sized e position) refl
+  statement-sized program loop position (Placed at (Clear slot)) = refl
+  statement-sized program loop position (Placed at (Store array n index e)) =
       both_sized (value_code position index) (value_code (position + value_size index) e ++ store_element_of array ∷ []) (value_size index) (value_size e + 1) (value-sized index position)
       (both_sized (value_code (position + value_size index) e) (store_element_of array ∷ []) (value_size e) 1 (value-sized e (position + value_size index)) refl)
-  statement-sized program loop position (Receive at channel target) = refl
-  statement-sized program loop position (Send at channel e) = both_sized (value_code position e) (instruction.Send channel ∷ []) (value_size e) 1 (value-sized e position) refl
-  statement-sized program loop position (Call at f arguments target) =
+  statement-sized program loop position (Placed at (Receive channel target)) = refl
+  statement-sized program loop position (Placed at (Send channel e)) = both_sized (value_code position e) (instruction.Send channel ∷ []) (value_size e) 1 (value-sized e position) refl
+  statement-sized program loop position (Placed at (Call f arguments target)) =
       both_sized (arguments_code position arguments) (instruction.Call f ∷ result_code (procedure_at program f).result target)
       (arguments_size arguments) (1 + result_size (procedure_at program f).result) (arguments-sized arguments position)
       (one_more (instruction.Call f) _ (result_size (procedure_at program f).result) (result_sized (procedure_at program f).result target))
-  statement-sized program loop position (If at e then_block else_block) =
+  statement-sized program loop position (Placed at (If e then_block else_block)) =
       let no = no_position program position e then_block else_block in
       let jump = jump_code (jumps_over then_block else_block) (no + block_size program else_block) in
       let first = block_code program loop (position + branch_size false e) then_block in
@@ -99,15 +99,15 @@ mutual
       (jump-sized (jumps_over then_block else_block) (no + block_size program else_block)) (block-sized program loop no else_block)) in
       both_sized (branch_code false position no e) (first ++ (jump ++ second)) (branch_size false e)
       (block_size program then_block + (jump_size (jumps_over then_block else_block) + block_size program else_block)) (branch-sized e false position no) rest
-  statement-sized program loop position (While at number e body) =
+  statement-sized program loop position (Placed at (While number e body)) =
       let test = test_position program position body in
       let inner : Loop = record { beyond = test + branch_size true e; test = test } in
       one_more (instruction.Jump test) _ (block_size program body + branch_size true e)
       (both_sized (block_code program inner (position + 1) body) (branch_code true test (position + 1) e) (block_size program body) (branch_size true e)
       (block-sized program inner (position + 1) body) (branch-sized e true test (position + 1)))
-  statement-sized program loop position (Leave at exit) = refl
-  statement-sized program loop position (ReturnWith at e) = return_sized position e
-  statement-sized program loop position (Try at block handlers) =
+  statement-sized program loop position (Placed at (Leave exit)) = refl
+  statement-sized program loop position (Placed at (ReturnWith e)) = return_sized position e
+  statement-sized program loop position (Placed at (Try block handlers)) =
       let start = handlers_position program position block handlers in
       let end = start + handlers_size program handlers in
       both_sized (block_code program loop position block) (jump_code (jumps_after block handlers) end ++ handlers_code program loop end start handlers)
@@ -115,7 +115,7 @@ mutual
       (both_sized (jump_code (jumps_after block handlers) end) (handlers_code program loop end start handlers)
       (jump_size (jumps_after block handlers)) (handlers_size program handlers)
       (jump-sized (jumps_after block handlers) end) (handlers-sized program loop end start handlers))
-  statement-sized program loop position (Nested at block) = block-sized program loop position block
+  statement-sized program loop position (Placed at (Nested block)) = block-sized program loop position block
 
   pub block-sized : (program : Program) (loop : Loop) (position : ℕ) (block : Block) → length (block_code program loop position block) ≡ block_size program block
   block-sized program loop position Empty = refl

@@ -8,6 +8,7 @@ use Rattle.common.specs.declared.base_type.BaseType.TheVariants as base
 use Rattle.resolved.specs.declared.expression.Variable.TheVariants.{Global, Local}
 use Rattle.common.specs.declared.direction.Direction.{Direction}
 use Rattle.common.specs.declared.direction.Direction.TheVariants.{Input, Output}
+use Rattle.labels.specs.Channel.{ChannelContents}
 use Rattle.resolved.specs.Program as resolved
 use Rattle.resolved.specs.SourceState as source
 use Rattle.common.specs.Values.{kind_of}
@@ -34,7 +35,7 @@ abbrev pub slot_of_type : Option VariableType → Option Slot
 slot_of_type None = None
 slot_of_type (Some type) = Some (declared_slot type.base type.size)
 
-abbrev pub direction_in : Option resolved.ChannelEntry → Option Direction
+abbrev pub direction_in : Option ChannelContents → Option Direction
 direction_in None = None
 direction_in (Some entry) = Some entry.direction
 
@@ -43,7 +44,7 @@ abbrev pub left_by : Direction → List ℤ → List ℤ → List ℤ
 left_by Input left whole = left
 left_by Output left whole = whole
 
-abbrev pub left_of : Option resolved.ChannelEntry → List ℤ → List ℤ → List ℤ
+abbrev pub left_of : Option ChannelContents → List ℤ → List ℤ → List ℤ
 left_of None left whole = whole
 left_of (Some entry) left whole = left_by entry.direction left whole
 

@@ -3,7 +3,7 @@ use Rattle.std.proofs.Common.{◌≡◌, ℕ, ◌+◌, ◌<◌, ◌≤◌, Bool,
 use Rattle.std.specs.Prelude.{Option, Some, None, if◌then◌else◌, ◌==◌}
 use Rattle.std.proofs.lemmas.Bool.{ltb-true, ltb-false}
 use Rattle.std.proofs.lemmas.Bool.Decides.{nat_tests}
-use Rattle.resolved.specs.Tree.{Statement, Assign, Clear, Store, Receive, Send, Call, If, While, Leave, ReturnWith, Try, Nested, Block, Empty, Then, Handlers, NoMore, Catch}
+use Rattle.resolved.specs.Tree.{Statement, Placed, Assign, Clear, Store, Receive, Send, Call, If, While, Leave, ReturnWith, Try, Nested, Block, Empty, Then, Handlers, NoMore, Catch}
 use Rattle.resolved.specs.Program.{Program}
 use Rattle.modules.specs.declared.declaration.Handler.{Handler}
 use Rattle.modules.specs.Machine.{handler_for}
@@ -73,26 +73,26 @@ entry-inside start end exception target i e low high =
 mutual
   pub statement-outside : (program : Program) (position : ℕ) (statement : Statement) (i e : ℕ) → Outside position (statement_size program statement) i
       → handler_for (statement_table program position statement) i e ≡ None
-  statement-outside program position (Assign at x v) i e out = refl
-  statement-outside program position (Clear at slot) i e out = refl
-  statement-outside program position (Store at array n index v) i e out = refl
-  statement-outside program position (Receive at channel target) i e out = refl
-  statement-outside program position (Send at channel v) i e out = refl
-  statement-outside program position (Call at f arguments target) i e out = refl
-  statement-outside program position (If at v then_block else_block) i e out =
+  statement-outside program position (Placed at (Assign x v)) i e out = refl
+  statement-outside program position (Placed at (Clear slot)) i e out = refl
+  statement-outside program position (Placed at (Store array n index v)) i e out = refl
+  statement-outside program position (Placed at (Receive channel target)) i e out = refl
+  statement-outside program position (Placed at (Send channel v)) i e out = refl
+  statement-outside program position (Placed at (Call f arguments target)) i e out = refl
+  statement-outside program position (Placed at (If v then_block else_block)) i e out =
       none_in_both (block_table program (position + branch_size false v) then_block) (block_table program (no_position program position v then_block else_block) else_block) i e
       (block-outside program (position + branch_size false v) then_block i e (λ low. omega (arith, low, out)))
       (block-outside program (no_position program position v then_block else_block) else_block i e (λ low. omega (arith, low, out)))
-  statement-outside program position (While at number v body) i e out = block-outside program (position + 1) body i e (λ low. omega (arith, low, out))
-  statement-outside program position (Leave at exit) i e out = refl
-  statement-outside program position (ReturnWith at v) i e out = refl
-  statement-outside program position (Try at block handlers) i e out =
+  statement-outside program position (Placed at (While number v body)) i e out = block-outside program (position + 1) body i e (λ low. omega (arith, low, out))
+  statement-outside program position (Placed at (Leave exit)) i e out = refl
+  statement-outside program position (Placed at (ReturnWith v)) i e out = refl
+  statement-outside program position (Placed at (Try block handlers)) i e out =
       none_in_both (block_table program position block)
       (handlers_table program position (position + block_size program block) (handlers_position program position block handlers) handlers) i e
       (block-outside program position block i e (λ low. omega (arith, low, out)))
       (handlers-outside program position (position + block_size program block) (handlers_position program position block handlers) handlers i e
       (λ low. omega (arith, low, out)) (λ low. omega (arith, low, out)))
-  statement-outside program position (Nested at block) i e out = block-outside program position block i e out
+  statement-outside program position (Placed at (Nested block)) i e out = block-outside program position block i e out
 
   pub block-outside : (program : Program) (position : ℕ) (block : Block) (i e : ℕ) → Outside position (block_size program block) i
       → handler_for (block_table program position block) i e ≡ None

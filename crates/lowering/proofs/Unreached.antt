@@ -7,7 +7,7 @@ use Rattle.std.proofs.Math.Bool.{and-false}
 use Rattle.common.specs.declared.base_type.BaseType.TheVariants.{Boolean}
 use Rattle.resolved.specs.declared.statement.Exit.{Exit}
 use Rattle.resolved.specs.declared.statement.Exit.TheVariants.{Normal, Return, Break, Continue, Throw}
-use Rattle.resolved.specs.Tree.{Statement, If, Leave, ReturnWith, Try, Nested, Block, Empty, Then, Handlers, NoMore, Catch}
+use Rattle.resolved.specs.Tree.{Statement, Placed, If, Leave, ReturnWith, Try, Nested, Block, Empty, Then, Handlers, NoMore, Catch}
 use Rattle.resolved.specs.Program.{Program, ProcedureEntry}
 use Rattle.resolved.specs.Exits.{same_exit, has_exit, raises, thrown_exits, passes, then_exits, statement_exits, block_exits, handlers_exits}
 use Rattle.resolved.specs.WellFormed.{has_base, statement_fits, block_fits, handlers_fit, is_exception, may_leave_by}
@@ -48,22 +48,22 @@ module _ (program : Program) (procedure : ProcedureEntry) where
   mutual
     pub statement-none : (statement : Statement) → statement_fits program procedure statement ≡ true → statement_falls statement ≡ false
         → has_exit (statement_exits program statement) Normal ≡ false
-    statement-none (If at e then_block else_block) fits falls =
+    statement-none (Placed at (If e then_block else_block)) fits falls =
         let parts = and_parts (has_base program procedure Boolean e && block_fits program procedure then_block) (block_fits program procedure else_block) fits in
         let yes_fits : block_fits program procedure then_block ≡ true = (and_parts (has_base program procedure Boolean e) (block_fits program procedure then_block) parts.0).1 in
         let ends = or_parts (block_falls then_block) (block_falls else_block) falls in
         none-of (thrown_exits (raises e) ++ block_exits program then_block) (block_exits program else_block)
         (none-of (thrown_exits (raises e)) (block_exits program then_block) (thrown-normal (raises e)) (block-none then_block yes_fits ends.0))
         (block-none else_block parts.1 ends.1)
-    statement-none (Leave at exit) fits falls = not-normal program exit fits
-    statement-none (ReturnWith at None) fits falls = refl
-    statement-none (ReturnWith at (Some e)) fits falls = thrown-normal (raises e)
-    statement-none (Try at block handlers) fits falls =
+    statement-none (Placed at (Leave exit)) fits falls = not-normal program exit fits
+    statement-none (Placed at (ReturnWith None)) fits falls = refl
+    statement-none (Placed at (ReturnWith (Some e))) fits falls = thrown-normal (raises e)
+    statement-none (Placed at (Try block handlers)) fits falls =
         let parts = and_parts (block_fits program procedure block) (handlers_fit program procedure handlers) fits in
         let ends = or_parts (block_falls block) (handlers_fall handlers) falls in
         none-of (filter (passes handlers) (block_exits program block)) (handlers_exits program handlers)
         (none-left (passes handlers) (block_exits program block) (block-none block parts.0 ends.0)) (handlers-none handlers parts.1 ends.1)
-    statement-none (Nested at block) fits falls = block-none block fits falls
+    statement-none (Placed at (Nested block)) fits falls = block-none block fits falls
     statement-none _ fits falls = absurd (let no : true ≡ false = falls in cc)
 
     pub block-none : (block : Block) → block_fits program procedure block ≡ true → block_falls block ≡ false → has_exit (block_exits program block) Normal ≡ false

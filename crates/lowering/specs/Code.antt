@@ -6,7 +6,7 @@ use Rattle.std.specs.Prelude.{ℕ, ◌+◌, Bool, true, false, not, ◌&&◌, �
 use Rattle.resolved.specs.declared.expression.Variable.{Variable}
 use Rattle.resolved.specs.declared.statement.Exit.{Exit}
 use Rattle.resolved.specs.declared.statement.Exit.TheVariants as exit
-use Rattle.resolved.specs.Tree.{Expression, Statement, Assign, Clear, Store, Receive, Send, Call, If, While, Leave, ReturnWith, Try, Nested, Block, Empty, Then, Handlers, NoMore, Catch}
+use Rattle.resolved.specs.Tree.{Expression, Statement, Placed, Assign, Clear, Store, Receive, Send, Call, If, While, Leave, ReturnWith, Try, Nested, Block, Empty, Then, Handlers, NoMore, Catch}
 use Rattle.resolved.specs.Program.{Program, ResultEntry, procedure_at}
 use Rattle.modules.specs.declared.instruction.Instruction.{Instruction}
 use Rattle.modules.specs.declared.instruction.Instruction.TheVariants as instruction
@@ -22,18 +22,18 @@ pub record Loop : Type 0 where
 -- whether a statement, block or handler may end normally, by its form alone
 abbrev mutual
   pub statement_falls : Statement → Bool
-  statement_falls (Assign at x e) = true
-  statement_falls (Clear at slot) = true
-  statement_falls (Store at array length index e) = true
-  statement_falls (Receive at channel target) = true
-  statement_falls (Send at channel e) = true
-  statement_falls (Call at procedure arguments target) = true
-  statement_falls (If at e then_block else_block) = block_falls then_block || block_falls else_block
-  statement_falls (While at loop e body) = true
-  statement_falls (Leave at exit) = false
-  statement_falls (ReturnWith at e) = false
-  statement_falls (Try at block handlers) = block_falls block || handlers_fall handlers
-  statement_falls (Nested at block) = block_falls block
+  statement_falls (Placed at (Assign x e)) = true
+  statement_falls (Placed at (Clear slot)) = true
+  statement_falls (Placed at (Store array length index e)) = true
+  statement_falls (Placed at (Receive channel target)) = true
+  statement_falls (Placed at (Send channel e)) = true
+  statement_falls (Placed at (Call procedure arguments target)) = true
+  statement_falls (Placed at (If e then_block else_block)) = block_falls then_block || block_falls else_block
+  statement_falls (Placed at (While loop e body)) = true
+  statement_falls (Placed at (Leave exit)) = false
+  statement_falls (Placed at (ReturnWith e)) = false
+  statement_falls (Placed at (Try block handlers)) = block_falls block || handlers_fall handlers
+  statement_falls (Placed at (Nested block)) = block_falls block
 
   pub block_falls : Block → Bool
   block_falls Empty = true
@@ -101,22 +101,22 @@ jumps_after block handlers = block_falls block && not (is_none_left handlers)
 -- how many instructions code has
 abbrev mutual
   pub statement_size : Program → Statement → ℕ
-  statement_size program (Assign at x e) = value_size e + 1
-  statement_size program (Clear at slot) = 1
-  statement_size program (Store at array length index e) = value_size index + (value_size e + 1)
-  statement_size program (Receive at channel target) = 2
-  statement_size program (Send at channel e) = value_size e + 1
-  statement_size program (Call at procedure arguments target) =
+  statement_size program (Placed at (Assign x e)) = value_size e + 1
+  statement_size program (Placed at (Clear slot)) = 1
+  statement_size program (Placed at (Store array length index e)) = value_size index + (value_size e + 1)
+  statement_size program (Placed at (Receive channel target)) = 2
+  statement_size program (Placed at (Send channel e)) = value_size e + 1
+  statement_size program (Placed at (Call procedure arguments target)) =
       arguments_size arguments + (1 + result_size (procedure_at program procedure).result)
-  statement_size program (If at e then_block else_block) =
+  statement_size program (Placed at (If e then_block else_block)) =
       branch_size false e
       + (block_size program then_block + (jump_size (jumps_over then_block else_block) + block_size program else_block))
-  statement_size program (While at loop e body) = 1 + (block_size program body + branch_size true e)
-  statement_size program (Leave at exit) = 1
-  statement_size program (ReturnWith at e) = return_size e
-  statement_size program (Try at block handlers) =
+  statement_size program (Placed at (While loop e body)) = 1 + (block_size program body + branch_size true e)
+  statement_size program (Placed at (Leave exit)) = 1
+  statement_size program (Placed at (ReturnWith e)) = return_size e
+  statement_size program (Placed at (Try block handlers)) =
       block_size program block + (jump_size (jumps_after block handlers) + handlers_size program handlers)
-  statement_size program (Nested at block) = block_size program block
+  statement_size program (Placed at (Nested block)) = block_size program block
 
   pub block_size : Program → Block → ℕ
   block_size program Empty = 0
@@ -145,36 +145,36 @@ handlers_position program position block handlers = position + block_size progra
 -- `break` and `continue` go where the innermost loop says; code after a handler's body, where that ends normally, is at `end`
 abbrev mutual
   pub statement_code : Program → Loop → (position : ℕ) → Statement → List Instruction
-  statement_code program loop position (Assign at x e) = value_code position e ++ store_of x ∷ []
-  statement_code program loop position (Clear at slot) = instruction.Clear slot ∷ []
-  statement_code program loop position (Store at array length index e) =
+  statement_code program loop position (Placed at (Assign x e)) = value_code position e ++ store_of x ∷ []
+  statement_code program loop position (Placed at (Clear slot)) = instruction.Clear slot ∷ []
+  statement_code program loop position (Placed at (Store array length index e)) =
       value_code position index ++ (value_code (position + value_size index) e ++ store_element_of array ∷ [])
-  statement_code program loop position (Receive at channel target) = instruction.Receive channel ∷ kept_code target ∷ []
-  statement_code program loop position (Send at channel e) = value_code position e ++ instruction.Send channel ∷ []
-  statement_code program loop position (Call at procedure arguments target) =
+  statement_code program loop position (Placed at (Receive channel target)) = instruction.Receive channel ∷ kept_code target ∷ []
+  statement_code program loop position (Placed at (Send channel e)) = value_code position e ++ instruction.Send channel ∷ []
+  statement_code program loop position (Placed at (Call procedure arguments target)) =
       arguments_code position arguments
       ++ instruction.Call procedure ∷ result_code (procedure_at program procedure).result target
-  statement_code program loop position (If at e then_block else_block) =
+  statement_code program loop position (Placed at (If e then_block else_block)) =
       branch_code false position (no_position program position e then_block else_block) e
       ++ (block_code program loop (position + branch_size false e) then_block
       ++ (jump_code (jumps_over then_block else_block)
       (no_position program position e then_block else_block + block_size program else_block)
       ++ block_code program loop (no_position program position e then_block else_block) else_block))
-  statement_code program loop position (While at number e body) =
+  statement_code program loop position (Placed at (While number e body)) =
       instruction.Jump (test_position program position body)
       ∷ (block_code program
       (record { beyond = test_position program position body + branch_size true e; test = test_position program position body })
       (position + 1) body
       ++ branch_code true (test_position program position body) (position + 1) e)
-  statement_code program loop position (Leave at exit) = leave_code loop exit ∷ []
-  statement_code program loop position (ReturnWith at e) = return_code position e
-  statement_code program loop position (Try at block handlers) =
+  statement_code program loop position (Placed at (Leave exit)) = leave_code loop exit ∷ []
+  statement_code program loop position (Placed at (ReturnWith e)) = return_code position e
+  statement_code program loop position (Placed at (Try block handlers)) =
       block_code program loop position block
       ++ (jump_code (jumps_after block handlers)
       (handlers_position program position block handlers + handlers_size program handlers)
       ++ handlers_code program loop (handlers_position program position block handlers + handlers_size program handlers)
       (handlers_position program position block handlers) handlers)
-  statement_code program loop position (Nested at block) = block_code program loop position block
+  statement_code program loop position (Placed at (Nested block)) = block_code program loop position block
 
   pub block_code : Program → Loop → (position : ℕ) → Block → List Instruction
   block_code program loop position Empty = []
@@ -198,23 +198,23 @@ entry_of start end exception target =
 -- the entries of a block stand before those of the `try` that it belongs to
 abbrev mutual
   pub statement_table : Program → (position : ℕ) → Statement → List Handler
-  statement_table program position (Assign at x e) = []
-  statement_table program position (Clear at slot) = []
-  statement_table program position (Store at array length index e) = []
-  statement_table program position (Receive at channel target) = []
-  statement_table program position (Send at channel e) = []
-  statement_table program position (Call at procedure arguments target) = []
-  statement_table program position (If at e then_block else_block) =
+  statement_table program position (Placed at (Assign x e)) = []
+  statement_table program position (Placed at (Clear slot)) = []
+  statement_table program position (Placed at (Store array length index e)) = []
+  statement_table program position (Placed at (Receive channel target)) = []
+  statement_table program position (Placed at (Send channel e)) = []
+  statement_table program position (Placed at (Call procedure arguments target)) = []
+  statement_table program position (Placed at (If e then_block else_block)) =
       block_table program (position + branch_size false e) then_block
       ++ block_table program (no_position program position e then_block else_block) else_block
-  statement_table program position (While at number e body) = block_table program (position + 1) body
-  statement_table program position (Leave at exit) = []
-  statement_table program position (ReturnWith at e) = []
-  statement_table program position (Try at block handlers) =
+  statement_table program position (Placed at (While number e body)) = block_table program (position + 1) body
+  statement_table program position (Placed at (Leave exit)) = []
+  statement_table program position (Placed at (ReturnWith e)) = []
+  statement_table program position (Placed at (Try block handlers)) =
       block_table program position block
       ++ handlers_table program position (position + block_size program block)
       (handlers_position program position block handlers) handlers
-  statement_table program position (Nested at block) = block_table program position block
+  statement_table program position (Placed at (Nested block)) = block_table program position block
 
   pub block_table : Program → (position : ℕ) → Block → List Handler
   block_table program position Empty = []

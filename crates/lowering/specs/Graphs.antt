@@ -6,7 +6,7 @@ use Rattle.resolved.specs.Program.{Program, ProcedureEntry}
 use Rattle.modules.specs.declared.instruction.Instruction.{Instruction}
 use Rattle.modules.specs.declared.instruction.Instruction.TheVariants.{Return}
 use Rattle.modules.specs.Contents.{ProcedureContents, ModuleContents}
-use Rattle.lowering.specs.Interface.{module_version, hierarchy_contents, channel_contents, global_contents, slot_contents, returned_kind}
+use Rattle.lowering.specs.Interface.{module_version, hierarchy_contents, global_contents, slot_contents, returned_kind}
 use Rattle.lowering.specs.Code.{Loop, block_falls, block_code, block_table}
 use Rattle.lowering.specs.Threaded.{threaded}
 
@@ -36,7 +36,7 @@ graph_of program = record {
   version = module_version program;
   hierarchy = hierarchy_contents program.hierarchy;
   exceptions = program.exceptions;
-  channels = map channel_contents program.channels;
+  channels = program.channels;
   globals = map global_contents program.globals;
   procedures = map (procedure_contents program) program.procedures;
   main = program.main;

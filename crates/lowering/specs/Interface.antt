@@ -1,7 +1,7 @@
 -- What a program and its graph show of themselves before any run: the version, the hierarchy, the channels, the exceptions, the globals,
 -- and what each procedure takes and gives.
 -- Source: our own.
-use Rattle.std.specs.Prelude.{◌≡◌, ◌↔◌, ℕ, map, Option, Some, None, if◌then◌else◌}
+use Rattle.std.specs.Prelude.{◌≡◌, ◌↔◌, ℕ, Option, Some, None, if◌then◌else◌}
 use Rattle.principals.specs.ActsFor.{ActsFor, PrincipalHierarchy}
 use Rattle.labels.specs.Sets.{ascending_set}
 use Rattle.common.specs.declared.base_type.BaseType.{BaseType}
@@ -10,23 +10,19 @@ use Rattle.common.specs.declared.value.Value.TheVariants as value
 use Rattle.std.specs.List.{list_any}
 use Rattle.resolved.specs.BitUse.{expression_uses_bits, uses_bits}
 use Rattle.resolved.specs.Labelled.{program_judgement}
-use Rattle.resolved.specs.Program.{Program, ChannelEntry, GlobalEntry, SlotEntry, ResultEntry}
+use Rattle.resolved.specs.Program.{Program, GlobalEntry, SlotEntry, ResultEntry}
 use Rattle.modules.specs.declared.declaration.Slot.{Slot}
 use Rattle.modules.specs.declared.declaration.Slot.TheVariants as slot
 use Rattle.modules.specs.declared.declaration.Global.{Global}
 use Rattle.modules.specs.declared.declaration.Global.TheVariants as global
 use Rattle.modules.specs.declared.version.Version.{Version}
 use Rattle.modules.specs.declared.version.Version.TheVariants.{One, Two}
-use Rattle.modules.specs.Contents.{ChannelContents, ModuleContents}
+use Rattle.modules.specs.Contents.{ModuleContents}
 use Rattle.modules.specs.Format.{pair_cmp}
 
 -- the same principals, and the written pairs in ascending order, each once
 abbrev pub hierarchy_contents : PrincipalHierarchy → PrincipalHierarchy
 hierarchy_contents h = record { names = h.names; pairs = ascending_set pair_cmp h.pairs }
-
--- a channel of a program as one of a graph: the same direction, name and label
-abbrev pub channel_contents : ChannelEntry → ChannelContents
-channel_contents entry = record { direction = entry.direction; name = entry.name; label = entry.label }
 
 -- a slot for values of a base type: one, or as many as an array has elements
 abbrev pub declared_slot : BaseType → (size : Option ℕ) → Slot
@@ -64,5 +60,5 @@ pub record HasInterfaceOf (program : Program) (m : ModuleContents) : Type 0 wher
   pub version : m.version ≡ (if list_any expression_uses_bits (program_judgement program).expressions then Two else One)
   pub names : m.hierarchy.names ≡ program.hierarchy.names
   pub acts : (a b : ℕ) → ActsFor m.hierarchy.pairs a b ↔ ActsFor program.hierarchy.pairs a b
-  pub channels : m.channels ≡ map channel_contents program.channels
+  pub channels : m.channels ≡ program.channels
   pub exceptions : m.exceptions ≡ program.exceptions

@@ -3,7 +3,7 @@ ghost use Rattle.resolved.specs.CoreOf.{program_of};
 ghost use Rattle.resolved.specs.TreeOf.{block_of, expression_of, handlers_of, statement_of};
 ghost use Rattle.lowering.specs.Added.{AreHandlersAdded, IsBlockAdded, IsStatementAdded};
 ghost use Rattle.lowering.specs.Code.{Loop, block_size, entry_of, handlers_size, jump_code, leave_code, statement_size};
-ghost use Rattle.resolved.specs.Tree.{If, Try, While};
+ghost use Rattle.resolved.specs.Tree.{Placed, If, Try, While};
 ghost use Rattle.std.specs.Prelude.{OnOk, length, ◌++◌, ◌+◌, ◌<◌, ◌^◌, ◌≡◌};
 
 use crate::actions::{push_assign, push_call, push_receive, push_return, push_send, push_store};
@@ -160,12 +160,12 @@ fn push_if(
     branches: &Branches,
 ) -> Result<(), AllocError>
     requires { length code.now.items + statement_size (program_of core.now)
-        (If 0 (expression_of branches.now.condition.now) (block_of branches.now.then_block.now)
-        (block_of branches.now.else_block.now)) < 2 ^ 32 }
+        (Placed 0 (If (expression_of branches.now.condition.now)
+        (block_of branches.now.then_block.now) (block_of branches.now.else_block.now))) < 2 ^ 32 }
     ensures { OnOk result (IsStatementAdded (program_of core.now)
         (record { beyond = around.beyond; test = around.test })
-        (If 0 (expression_of branches.now.condition.now) (block_of branches.now.then_block.now)
-        (block_of branches.now.else_block.now))
+        (Placed 0 (If (expression_of branches.now.condition.now)
+        (block_of branches.now.then_block.now) (block_of branches.now.else_block.now)))
         code.old.items code.new.items table.old.items table.new.items) }
 {
     let Branches {
@@ -193,9 +193,9 @@ fn push_while(
     body: &[Statement],
 ) -> Result<(), AllocError>
     requires { length code.now.items + statement_size (program_of core.now)
-        (While 0 0 (expression_of condition.now) (block_of body.now)) < 2 ^ 32 }
+        (Placed 0 (While 0 (expression_of condition.now) (block_of body.now))) < 2 ^ 32 }
     ensures { OnOk result ((loop : Loop) → IsStatementAdded (program_of core.now) loop
-        (While 0 0 (expression_of condition.now) (block_of body.now))
+        (Placed 0 (While 0 (expression_of condition.now) (block_of body.now)))
         code.old.items code.new.items table.old.items table.new.items) }
 {
     let start = next_position(code) + 1;
@@ -219,10 +219,10 @@ fn push_try(
     handlers: &[statement::Handler],
 ) -> Result<(), AllocError>
     requires { length code.now.items + statement_size (program_of core.now)
-        (Try 0 (block_of block.now) (handlers_of handlers.now)) < 2 ^ 32 }
+        (Placed 0 (Try (block_of block.now) (handlers_of handlers.now))) < 2 ^ 32 }
     ensures { OnOk result (IsStatementAdded (program_of core.now)
         (record { beyond = around.beyond; test = around.test })
-        (Try 0 (block_of block.now) (handlers_of handlers.now))
+        (Placed 0 (Try (block_of block.now) (handlers_of handlers.now)))
         code.old.items code.new.items table.old.items table.new.items) }
 {
     let start = next_position(code);

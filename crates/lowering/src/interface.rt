@@ -1,7 +1,7 @@
 //! What a graph shows before any run: the hierarchy, the exceptions, the channels and the globals.
 ghost use Rattle.labels.specs.Label.{Label};
 ghost use Rattle.resolved.specs.ProgramOf.{channel_entry, global_entry};
-ghost use Rattle.lowering.specs.Interface.{channel_contents, declared_global, global_contents, hierarchy_contents, scalar_global};
+ghost use Rattle.lowering.specs.Interface.{declared_global, global_contents, hierarchy_contents, scalar_global};
 ghost use Rattle.lowering.specs.Fitting.{IsShortValue};
 ghost use Rattle.std.specs.Prelude.{All, IfOk, List, map, ◌≡◌};
 
@@ -34,8 +34,7 @@ pub(crate) fn channels_of(
     labels: &LabelTable,
     channels: &[tables::Channel],
 ) -> Result<Vec<Channel>, AllocError>
-    ensures { IfOk result (λ made. made.items
-        ≡ map channel_contents (map (channel_entry labels.now) channels.now)) }
+    ensures { IfOk result (λ made. made.items ≡ map (channel_entry labels.now) channels.now) }
 {
     let mut made = Vec::new(alloc);
     for channel in channels {

@@ -13,7 +13,8 @@ use Rattle.labels.specs.Label.{Label, may_read}
 use Rattle.labels.specs.Sent.{pairs_for}
 use Rattle.common.specs.declared.sent.Pair.{Pair}
 use Rattle.labels.proofs.Carried.{own-label}
-use Rattle.modules.specs.Contents.{ChannelContents, ModuleContents}
+use Rattle.labels.specs.Channel.{ChannelContents}
+use Rattle.modules.specs.Contents.{ModuleContents}
 use Rattle.modules.specs.ByteFormat.{Fits, FitEach}
 use Rattle.modules.specs.Format.{module_file, declared, channel_after, hierarchy, number_below, name_after, policy, label, is_among}
 use Rattle.modules.specs.FormatParts.{channels, principals, pair_after, policy_after, reader_after}

@@ -2,20 +2,13 @@
 -- Source: our own.
 use Rattle.std.specs.Prelude.{ℕ, List, Option}
 use Rattle.principals.specs.ActsFor.{PrincipalHierarchy}
-use Rattle.labels.specs.Label.{Label}
+use Rattle.labels.specs.Channel.{ChannelContents}
 use Rattle.modules.specs.declared.instruction.Instruction.{Instruction}
 use Rattle.common.specs.declared.base_type.BaseType.{BaseType}
 use Rattle.modules.specs.declared.version.Version.{Version}
 use Rattle.modules.specs.declared.declaration.Slot.{Slot}
 use Rattle.modules.specs.declared.declaration.Global.{Global}
 use Rattle.modules.specs.declared.declaration.Handler.{Handler}
-use Rattle.common.specs.declared.direction.Direction.{Direction}
-
--- a channel: its direction, its name as bytes, and the label of what it carries
-pub record ChannelContents : Type 0 where
-  pub direction : Direction
-  pub name : List ℕ
-  pub label : Label
 
 -- a procedure: the kind of value that it returns, if any; how many of its first slots are parameters; the slots of a frame;
 -- the code; and the handlers, the first that fits being the one that is taken

@@ -28,7 +28,8 @@ use Rattle.modules.specs.declared.declaration.Handler.{Handler}
 use Rattle.common.specs.declared.direction.Direction.{Direction}
 use Rattle.common.specs.declared.direction.Direction.TheVariants.{Input, Output}
 use Rattle.common.specs.contracts.direction.DirectionPartialEq.TheImpl.{eq-value as same_direction}
-use Rattle.modules.specs.Contents.{ChannelContents, ProcedureContents, ModuleContents}
+use Rattle.labels.specs.Channel.{ChannelContents}
+use Rattle.modules.specs.Contents.{ProcedureContents, ModuleContents}
 use Rattle.modules.specs.ByteFormat.{ByteFormat, OneOf, Number, Text, Nothing, Marked, Checked, Then, Counted, Code, Named}
 
 -- ---- numbers and lists

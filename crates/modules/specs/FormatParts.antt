@@ -16,7 +16,8 @@ use Rattle.modules.specs.declared.version.Version.{Version}
 use Rattle.modules.specs.declared.declaration.Slot.{Slot}
 use Rattle.modules.specs.declared.declaration.Global.{Global}
 use Rattle.modules.specs.declared.declaration.Handler.{Handler}
-use Rattle.modules.specs.Contents.{ChannelContents, ProcedureContents}
+use Rattle.labels.specs.Channel.{ChannelContents}
+use Rattle.modules.specs.Contents.{ProcedureContents}
 use Rattle.modules.specs.ByteFormat.{ByteFormat, Checked, Then, Counted}
 use Rattle.modules.specs.Format.{any, is_above, is_among, number_below, name_after, pair_cmp, policy, channel_after, declared, hierarchy, slot_beside, slot_cells, global_fields, global_after, handler, procedure, main}
 

@@ -1,4 +1,4 @@
-ghost use Rattle.modules.specs.Contents.{ChannelContents};
+ghost use Rattle.labels.specs.Channel.{ChannelContents};
 ghost use Rattle.std.specs.Prelude.{◌≡◌};
 ghost use Rattle.std.specs.String.{string_bytes};
 
@@ -15,7 +15,7 @@ pub struct Channel {
 }
 
 impl Model for Channel {
-    ghost use Rattle.modules.specs.Contents.{ChannelContents};
+    ghost use Rattle.labels.specs.Channel.{ChannelContents};
     ghost use Rattle.std.specs.String.{string_bytes};
 
     ghost Value = { ChannelContents };

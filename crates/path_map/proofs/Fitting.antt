@@ -17,7 +17,7 @@ use Rattle.resolved.specs.declared.tables.Thrown.{Thrown}
 use Rattle.common.specs.declared.base_type.BaseType.TheVariants.{Boolean}
 use Rattle.resolved.specs.Program.{ProcedureEntry, Program, ThrownEntry}
 use Rattle.resolved.specs.ProgramOf.{procedure_entry, thrown_entry}
-use Rattle.resolved.specs.Tree.{Expression, Statement, If, While, Try, Nested, Block, Handlers}
+use Rattle.resolved.specs.Tree.{Expression, Statement, Placed, If, While, Try, Nested, Block, Handlers}
 use Rattle.resolved.specs.TreeOf.{block_of, handlers_of, statement_of}
 use Rattle.resolved.specs.WellFormed.{block_fits, handlers_fit, has_base, is_exception, label_fits, procedure_fits, statement_fits, throws_fit}
 use Rattle.resolved.proofs.WellFormedParts.{procedure_parts, program_parts}
@@ -30,12 +30,12 @@ module _ (program : Program) where
     fits-at : IsTrue (statement_fits program some.procedure tree)
     fits-at = subst (λ t. IsTrue (statement_fits program some.procedure t)) is some.fits
 
-  module _ (s : S.Statement) (at : ℕ) (e : Expression) (then_block else_block : Block) (is : statement_of s ≡ If at e then_block else_block)
+  module _ (s : S.Statement) (at : ℕ) (e : Expression) (then_block else_block : Block) (is : statement_of s ≡ Placed at (If e then_block else_block))
       (some : FitsSome (λ procedure. statement_fits program procedure (statement_of s))) where
     parts : IsTrue (has_base program some.procedure Boolean e && block_fits program some.procedure then_block)
         × IsTrue (block_fits program some.procedure else_block)
     parts = and_parts (has_base program some.procedure Boolean e && block_fits program some.procedure then_block)
-        (block_fits program some.procedure else_block) (fits-at s (If at e then_block else_block) is some)
+        (block_fits program some.procedure else_block) (fits-at s (Placed at (If e then_block else_block)) is some)
 
     pub yes-fits : FitsSome (λ procedure. block_fits program procedure then_block)
     yes-fits = record {
@@ -46,30 +46,30 @@ module _ (program : Program) where
     pub no-fits : FitsSome (λ procedure. block_fits program procedure else_block)
     no-fits = record { procedure = some.procedure; fits = parts.1 }
 
-  pub body-fits : (s : S.Statement) (at loop : ℕ) (e : Expression) (body : Block) → statement_of s ≡ While at loop e body
+  pub body-fits : (s : S.Statement) (at loop : ℕ) (e : Expression) (body : Block) → statement_of s ≡ Placed at (While loop e body)
       → FitsSome (λ procedure. statement_fits program procedure (statement_of s)) → FitsSome (λ procedure. block_fits program procedure body)
   body-fits s at loop e body is some = record {
     procedure = some.procedure;
-    fits = (and_parts (has_base program some.procedure Boolean e) (block_fits program some.procedure body) (fits-at s (While at loop e body) is some)).1;
+    fits = (and_parts (has_base program some.procedure Boolean e) (block_fits program some.procedure body) (fits-at s (Placed at (While loop e body)) is some)).1;
   }
 
-  module _ (s : S.Statement) (at : ℕ) (block : Block) (handlers : Handlers) (is : statement_of s ≡ Try at block handlers)
+  module _ (s : S.Statement) (at : ℕ) (block : Block) (handlers : Handlers) (is : statement_of s ≡ Placed at (Try block handlers))
       (some : FitsSome (λ procedure. statement_fits program procedure (statement_of s))) where
     pub tried-fits : FitsSome (λ procedure. block_fits program procedure block)
     tried-fits = record {
       procedure = some.procedure;
-      fits = (and_parts (block_fits program some.procedure block) (handlers_fit program some.procedure handlers) (fits-at s (Try at block handlers) is some)).0;
+      fits = (and_parts (block_fits program some.procedure block) (handlers_fit program some.procedure handlers) (fits-at s (Placed at (Try block handlers)) is some)).0;
     }
 
     pub handlers-fit : FitsSome (λ procedure. handlers_fit program procedure handlers)
     handlers-fit = record {
       procedure = some.procedure;
-      fits = (and_parts (block_fits program some.procedure block) (handlers_fit program some.procedure handlers) (fits-at s (Try at block handlers) is some)).1;
+      fits = (and_parts (block_fits program some.procedure block) (handlers_fit program some.procedure handlers) (fits-at s (Placed at (Try block handlers)) is some)).1;
     }
 
-  pub nested-fits : (s : S.Statement) (at : ℕ) (block : Block) → statement_of s ≡ Nested at block
+  pub nested-fits : (s : S.Statement) (at : ℕ) (block : Block) → statement_of s ≡ Placed at (Nested block)
       → FitsSome (λ procedure. statement_fits program procedure (statement_of s)) → FitsSome (λ procedure. block_fits program procedure block)
-  nested-fits s at block is some = record { procedure = some.procedure; fits = fits-at s (Nested at block) is some }
+  nested-fits s at block is some = record { procedure = some.procedure; fits = fits-at s (Placed at (Nested block)) is some }
 
   -- one statement of a block, and the body of one handler of several
   statement-at : (procedure : ProcedureEntry) (block : List S.Statement) (i : ℕ) (s : S.Statement) → i < length block → s ≡ get_or block i s

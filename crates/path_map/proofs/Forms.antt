@@ -6,7 +6,7 @@ use Rattle.resolved.specs.FaultParts.{inner_faults}
 use Rattle.resolved.specs.declared.statement.Statement as S
 use Rattle.resolved.specs.declared.statement.Exit.{Exit}
 use Rattle.resolved.specs.declared.statement.Exit.TheVariants.{Normal, Return}
-use Rattle.resolved.specs.Tree.{Expression, Statement, If, While, Try, ReturnWith, Block, Handlers}
+use Rattle.resolved.specs.Tree.{Expression, Statement, Placed, If, While, Try, ReturnWith, Block, Handlers}
 use Rattle.resolved.specs.TreeOf.{statement_of}
 use Rattle.resolved.specs.Program.{Program}
 use Rattle.resolved.specs.Exits.{thrown_exits, leaves_loop, raises, index_can_raise, index_raises, statement_exits, block_exits, handlers_exits}
@@ -46,7 +46,7 @@ found-same ends paths e0 e1 r0 r1 x y is found = subst (λ z. IsFound ends paths
 -- a return, with a value or without one
 pub return-found : (program : Program) (at : ℕ) (value : Option Expression) (e0 e1 : List (List Exit)) (r0 r1 : ℕ → Bool) (x : Exits)
     → IsFound (Return ∷ thrown_exits (raises_some value)) [] e0 e1 r0 r1 x
-    → IsFound (statement_exits program (ReturnWith at value)) (inner_paths program (ReturnWith at value)) e0 e1 r0 r1 x
+    → IsFound (statement_exits program (Placed at (ReturnWith value))) (inner_paths program (Placed at (ReturnWith value))) e0 e1 r0 r1 x
 return-found program at None e0 e1 r0 r1 x found = found
 return-found program at (Some e) e0 e1 r0 r1 x found = found
 
@@ -69,9 +69,9 @@ pub if-found : (program : Program) (at : ℕ) (e : Expression) (then_block else_
     → IsFound (block_exits program then_block) (block_paths program then_block) e0 e1 r1 r2 y
     → IsFound (block_exits program else_block) (block_paths program else_block) e1 e2 r2 r3 z
     → j ≡ join x y → k ≡ join j z
-    → IsFound (statement_exits program (If at e then_block else_block)) (inner_paths program (If at e then_block else_block)) e0 e2 r0 r3 k
+    → IsFound (statement_exits program (Placed at (If e then_block else_block))) (inner_paths program (Placed at (If e then_block else_block))) e0 e2 r0 r3 k
 if-found program at e then_block else_block e0 e1 e2 r0 r1 r2 r3 x y z j k tested taken other first second =
-    found-same (statement_exits program (If at e then_block else_block)) (inner_paths program (If at e then_block else_block)) e0 e2 r0 r3 (join (join x y) z) k
+    found-same (statement_exits program (Placed at (If e then_block else_block))) (inner_paths program (Placed at (If e then_block else_block))) e0 e2 r0 r3 (join (join x y) z) k
     (second ∙ ap (λ w. join w z) first)
     (both (thrown_exits (raises e) ++ block_exits program then_block) (block_exits program else_block) (block_paths program then_block) (block_paths program else_block) e0 e1 e2 r0 r2 r3 (join x y) z
     (both (thrown_exits (raises e)) (block_exits program then_block) [] (block_paths program then_block) e0 e0 e1 r0 r1 r2 x y tested taken) other)
@@ -80,7 +80,7 @@ pub while-found : (program : Program) (at loop : ℕ) (e : Expression) (body : B
     → IsFound (thrown_exits (raises e)) [] e0 e0 r0 r1 x
     → IsFound (block_exits program body) (block_paths program body) e0 e1 r1 r2 y
     → j ≡ join x y → k ≡ of_loop j
-    → IsFound (statement_exits program (While at loop e body)) (inner_paths program (While at loop e body)) e0 e1 r0 r2 k
+    → IsFound (statement_exits program (Placed at (While loop e body))) (inner_paths program (Placed at (While loop e body))) e0 e1 r0 r2 k
 while-found program at loop e body e0 e1 r0 r1 r2 x y j k tested turned first second =
     subst (λ ends. IsFound (Normal ∷ ends) (block_paths program body) e0 e1 r0 r2 k) (loop-thrown (raises e) (block_exits program body))
     (found-same (Normal ∷ filter leaves_loop (thrown_exits (raises e) ++ block_exits program body)) (block_paths program body) e0 e1 r0 r2 (of_loop (join x y)) k
@@ -96,9 +96,9 @@ module _ (program : Program) (at : ℕ) (block : Block) (handlers : Handlers) (e
   pub try-is-found : (e2 : List (List Exit)) (i2 r0 r1 r2 : ℕ → Bool) (y w j : Exits) (k : Raised)
       → IsFound (handlers_exits program handlers) (handlers_paths program handlers) e1 e2 r0 r1 y → AreLeft i1 i2 handlers
       → IsSum r1 i2 r2 → IsSummaryOf i2 k → w ≡ record x { raised = k } → j ≡ join w y
-      → IsFound (statement_exits program (Try at block handlers)) (inner_paths program (Try at block handlers)) e0 e2 r0 r2 j
+      → IsFound (statement_exits program (Placed at (Try block handlers))) (inner_paths program (Placed at (Try block handlers))) e0 e2 r0 r2 j
   try-is-found e2 i2 r0 r1 r2 y w j k handled left united summary first second =
-      found-same (statement_exits program (Try at block handlers)) (inner_paths program (Try at block handlers)) e0 e2 r0 r2 (join (record x { raised = k }) y) j
+      found-same (statement_exits program (Placed at (Try block handlers))) (inner_paths program (Placed at (Try block handlers))) e0 e2 r0 r2 (join (record x { raised = k }) y) j
       (second ∙ ap (λ v. join v y) first)
       (try-found (block_exits program block) (handlers_exits program handlers) handlers (block_paths program block) (handlers_paths program handlers)
       e0 e1 e2 none i1 i2 r0 r1 r2 x y k empty tried handled left united summary)

@@ -3,7 +3,7 @@ use Rattle.std.proofs.Common.{◌≡◌, refl, sym, ap, ◌∙◌, subst, ℕ, z
 use Rattle.std.specs.Prelude.{Some, slice_get, slice_index_or}
 use Rattle.std.proofs.lemmas.List.{map-append}
 use Rattle.resolved.specs.declared.statement.Exit.{Exit}
-use Rattle.resolved.specs.Tree.{Statement, Assign, Clear, Store, Receive, Send, Call, If, While, Leave, ReturnWith, Try, Nested, Block, Empty, Then, Handlers, NoMore, Catch}
+use Rattle.resolved.specs.Tree.{Statement, Placed, Assign, Clear, Store, Receive, Send, Call, If, While, Leave, ReturnWith, Try, Nested, Block, Empty, Then, Handlers, NoMore, Catch}
 use Rattle.resolved.specs.Program.{Program, ProcedureEntry}
 use Rattle.resolved.specs.Exits.{statement_exits}
 use Rattle.path_map.specs.EndsOf.{SameExits, AreEndsOf, piece_exits}
@@ -22,25 +22,25 @@ module _ (program : Program) where
 
   mutual
     in-statement : (statement : Statement) → ends_of (pieces_in_statement statement) ≡ inner_paths program statement
-    in-statement (Assign at x e) = refl
-    in-statement (Clear at slot) = refl
-    in-statement (Store at array length index e) = refl
-    in-statement (Receive at channel target) = refl
-    in-statement (Send at channel e) = refl
-    in-statement (Call at procedure arguments target) = refl
-    in-statement (If at e then_block else_block) =
+    in-statement (Placed at (Assign x e)) = refl
+    in-statement (Placed at (Clear slot)) = refl
+    in-statement (Placed at (Store array length index e)) = refl
+    in-statement (Placed at (Receive channel target)) = refl
+    in-statement (Placed at (Send channel e)) = refl
+    in-statement (Placed at (Call procedure arguments target)) = refl
+    in-statement (Placed at (If e then_block else_block)) =
         both-parts (OfBlock then_block ∷ pieces_in_block then_block) (OfBlock else_block ∷ pieces_in_block else_block)
         (block_paths program then_block) (block_paths program else_block)
         (one-more (OfBlock then_block) (pieces_in_block then_block) (rest_paths program then_block) (in-block then_block))
         (one-more (OfBlock else_block) (pieces_in_block else_block) (rest_paths program else_block) (in-block else_block))
-    in-statement (While at loop e body) = one-more (OfBlock body) (pieces_in_block body) (rest_paths program body) (in-block body)
-    in-statement (Leave at exit) = refl
-    in-statement (ReturnWith at value) = refl
-    in-statement (Try at block handlers) =
+    in-statement (Placed at (While loop e body)) = one-more (OfBlock body) (pieces_in_block body) (rest_paths program body) (in-block body)
+    in-statement (Placed at (Leave exit)) = refl
+    in-statement (Placed at (ReturnWith value)) = refl
+    in-statement (Placed at (Try block handlers)) =
         both-parts (OfBlock block ∷ pieces_in_block block) (pieces_in_handlers handlers)
         (block_paths program block) (handlers_paths program handlers)
         (one-more (OfBlock block) (pieces_in_block block) (rest_paths program block) (in-block block)) (in-handlers handlers)
-    in-statement (Nested at block) = one-more (OfBlock block) (pieces_in_block block) (rest_paths program block) (in-block block)
+    in-statement (Placed at (Nested block)) = one-more (OfBlock block) (pieces_in_block block) (rest_paths program block) (in-block block)
 
     in-block : (block : Block) → ends_of (pieces_in_block block) ≡ rest_paths program block
     in-block Empty = refl

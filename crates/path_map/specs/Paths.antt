@@ -3,7 +3,7 @@
 -- Source: our own.
 use Rattle.std.specs.Prelude.{List, [], ◌∷◌, ◌++◌, flat_map, ⊤}
 use Rattle.resolved.specs.declared.statement.Exit.{Exit}
-use Rattle.resolved.specs.Tree.{Statement, Assign, Clear, Store, Receive, Send, Call, If, While, Leave, ReturnWith, Try, Nested, Block, Empty, Then, Handlers, NoMore, Catch}
+use Rattle.resolved.specs.Tree.{Statement, Placed, Assign, Clear, Store, Receive, Send, Call, If, While, Leave, ReturnWith, Try, Nested, Block, Empty, Then, Handlers, NoMore, Catch}
 use Rattle.resolved.specs.Program.{Program, ProcedureEntry}
 use Rattle.resolved.specs.Exits.{statement_exits, block_exits}
 use Rattle.path_map.specs.EndsOf.{SameExits}
@@ -11,20 +11,20 @@ use Rattle.path_map.specs.EndsOf.{SameExits}
 -- of the blocks in a statement, of the statements of a block, and of the bodies of handlers, each with what is in it
 abbrev mutual
   pub inner_paths : Program → Statement → List (List Exit)
-  inner_paths program (Assign at x e) = []
-  inner_paths program (Clear at slot) = []
-  inner_paths program (Store at array length index e) = []
-  inner_paths program (Receive at channel target) = []
-  inner_paths program (Send at channel e) = []
-  inner_paths program (Call at procedure arguments target) = []
-  inner_paths program (If at e then_block else_block) =
+  inner_paths program (Placed at (Assign x e)) = []
+  inner_paths program (Placed at (Clear slot)) = []
+  inner_paths program (Placed at (Store array length index e)) = []
+  inner_paths program (Placed at (Receive channel target)) = []
+  inner_paths program (Placed at (Send channel e)) = []
+  inner_paths program (Placed at (Call procedure arguments target)) = []
+  inner_paths program (Placed at (If e then_block else_block)) =
       (block_exits program then_block ∷ rest_paths program then_block) ++ (block_exits program else_block ∷ rest_paths program else_block)
-  inner_paths program (While at loop e body) = block_exits program body ∷ rest_paths program body
-  inner_paths program (Leave at exit) = []
-  inner_paths program (ReturnWith at value) = []
-  inner_paths program (Try at block handlers) =
+  inner_paths program (Placed at (While loop e body)) = block_exits program body ∷ rest_paths program body
+  inner_paths program (Placed at (Leave exit)) = []
+  inner_paths program (Placed at (ReturnWith value)) = []
+  inner_paths program (Placed at (Try block handlers)) =
       (block_exits program block ∷ rest_paths program block) ++ handlers_paths program handlers
-  inner_paths program (Nested at block) = block_exits program block ∷ rest_paths program block
+  inner_paths program (Placed at (Nested block)) = block_exits program block ∷ rest_paths program block
 
   pub rest_paths : Program → Block → List (List Exit)
   rest_paths program Empty = []

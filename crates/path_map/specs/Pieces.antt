@@ -2,7 +2,7 @@
 -- statements, a statement before the blocks in it, and the body of a procedure before that of the next.
 -- Source: our own.
 use Rattle.std.specs.Prelude.{List, [], ◌∷◌, ◌++◌, flat_map}
-use Rattle.resolved.specs.Tree.{Statement, Assign, Clear, Store, Receive, Send, Call, If, While, Leave, ReturnWith, Try, Nested, Block, Empty, Then, Handlers, NoMore, Catch}
+use Rattle.resolved.specs.Tree.{Statement, Placed, Assign, Clear, Store, Receive, Send, Call, If, While, Leave, ReturnWith, Try, Nested, Block, Empty, Then, Handlers, NoMore, Catch}
 use Rattle.resolved.specs.Program.{Program, ProcedureEntry}
 
 -- a statement or a block
@@ -13,19 +13,19 @@ pub data Piece : Type 0 where
 -- in a statement, in a block, and in handlers, in their order
 abbrev mutual
   pub pieces_in_statement : Statement → List Piece
-  pieces_in_statement (Assign at x e) = []
-  pieces_in_statement (Clear at slot) = []
-  pieces_in_statement (Store at array length index e) = []
-  pieces_in_statement (Receive at channel target) = []
-  pieces_in_statement (Send at channel e) = []
-  pieces_in_statement (Call at procedure arguments target) = []
-  pieces_in_statement (If at e then_block else_block) =
+  pieces_in_statement (Placed at (Assign x e)) = []
+  pieces_in_statement (Placed at (Clear slot)) = []
+  pieces_in_statement (Placed at (Store array length index e)) = []
+  pieces_in_statement (Placed at (Receive channel target)) = []
+  pieces_in_statement (Placed at (Send channel e)) = []
+  pieces_in_statement (Placed at (Call procedure arguments target)) = []
+  pieces_in_statement (Placed at (If e then_block else_block)) =
       (OfBlock then_block ∷ pieces_in_block then_block) ++ (OfBlock else_block ∷ pieces_in_block else_block)
-  pieces_in_statement (While at loop e body) = OfBlock body ∷ pieces_in_block body
-  pieces_in_statement (Leave at exit) = []
-  pieces_in_statement (ReturnWith at value) = []
-  pieces_in_statement (Try at block handlers) = (OfBlock block ∷ pieces_in_block block) ++ pieces_in_handlers handlers
-  pieces_in_statement (Nested at block) = OfBlock block ∷ pieces_in_block block
+  pieces_in_statement (Placed at (While loop e body)) = OfBlock body ∷ pieces_in_block body
+  pieces_in_statement (Placed at (Leave exit)) = []
+  pieces_in_statement (Placed at (ReturnWith value)) = []
+  pieces_in_statement (Placed at (Try block handlers)) = (OfBlock block ∷ pieces_in_block block) ++ pieces_in_handlers handlers
+  pieces_in_statement (Placed at (Nested block)) = OfBlock block ∷ pieces_in_block block
 
   pub pieces_in_block : Block → List Piece
   pieces_in_block Empty = []

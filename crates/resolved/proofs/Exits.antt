@@ -8,7 +8,7 @@ use Rattle.resolved.specs.declared.statement.Exit.{Exit}
 use Rattle.resolved.specs.declared.statement.Exit.TheVariants.{Normal, Return, Break, Continue, Throw}
 use Rattle.resolved.specs.ExitFaults.{block_faults, handlers_faults}
 use Rattle.resolved.specs.FaultParts.{place_of, may_stand, inner_faults}
-use Rattle.resolved.specs.Tree.{Statement, Assign, Clear, Store, Receive, Send, Call, If, While, Leave, ReturnWith, Try, Nested, Block}
+use Rattle.resolved.specs.Tree.{Statement, Placed, Assign, Clear, Store, Receive, Send, Call, If, While, Leave, ReturnWith, Try, Nested, Block}
 use Rattle.resolved.specs.Tree as tree
 use Rattle.resolved.specs.Program.{Program, ThrownEntry}
 use Rattle.common.specs.declared.refusal.RefusalAt.{RefusalAt}
@@ -103,20 +103,20 @@ module _ (program : Program) (in_loop reached : Bool) (rest : Block) where
   alone s own = ap (λ xs. xs ++ later s) (sym (append-nil own))
 
   pub faults-in_parts : (s : Statement) → block_faults program in_loop reached (tree.Then s rest) ≡ parts s ++ later s
-  faults-in_parts (Assign at x e) = alone (Assign at x e) (unreached at)
-  faults-in_parts (Clear at slot) = alone (Clear at slot) (unreached at)
-  faults-in_parts (Store at array count index e) = alone (Store at array count index e) (unreached at)
-  faults-in_parts (Receive at channel target) = alone (Receive at channel target) (unreached at)
-  faults-in_parts (Send at channel e) = alone (Send at channel e) (unreached at)
-  faults-in_parts (Call at procedure arguments target) = alone (Call at procedure arguments target) (unreached at)
-  faults-in_parts (If at e then_block else_block) =
-      ap (λ xs. xs ++ later (If at e then_block else_block))
+  faults-in_parts (Placed at (Assign x e)) = alone (Placed at (Assign x e)) (unreached at)
+  faults-in_parts (Placed at (Clear slot)) = alone (Placed at (Clear slot)) (unreached at)
+  faults-in_parts (Placed at (Store array count index e)) = alone (Placed at (Store array count index e)) (unreached at)
+  faults-in_parts (Placed at (Receive channel target)) = alone (Placed at (Receive channel target)) (unreached at)
+  faults-in_parts (Placed at (Send channel e)) = alone (Placed at (Send channel e)) (unreached at)
+  faults-in_parts (Placed at (Call procedure arguments target)) = alone (Placed at (Call procedure arguments target)) (unreached at)
+  faults-in_parts (Placed at (If e then_block else_block)) =
+      ap (λ xs. xs ++ later (Placed at (If e then_block else_block)))
       (append_assoc (unreached at) (block_faults program in_loop true then_block) (block_faults program in_loop true else_block))
-  faults-in_parts (While at loop e body) = refl
-  faults-in_parts (Leave at exit) =
-      alone (Leave at exit) (fault_unless (may_stand in_loop (Leave at exit)) kind.OutsideLoop at ++ unreached at)
-  faults-in_parts (ReturnWith at value) = alone (ReturnWith at value) (unreached at)
-  faults-in_parts (Try at block handlers) =
-      ap (λ xs. xs ++ later (Try at block handlers))
+  faults-in_parts (Placed at (While loop e body)) = refl
+  faults-in_parts (Placed at (Leave exit)) =
+      alone (Placed at (Leave exit)) (fault_unless (may_stand in_loop (Placed at (Leave exit))) kind.OutsideLoop at ++ unreached at)
+  faults-in_parts (Placed at (ReturnWith value)) = alone (Placed at (ReturnWith value)) (unreached at)
+  faults-in_parts (Placed at (Try block handlers)) =
+      ap (λ xs. xs ++ later (Placed at (Try block handlers)))
       (append_assoc (unreached at) (block_faults program in_loop true block) (handlers_faults program in_loop (block_exits program block) handlers))
-  faults-in_parts (Nested at block) = refl
+  faults-in_parts (Placed at (Nested block)) = refl

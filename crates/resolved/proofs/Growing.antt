@@ -11,7 +11,7 @@ use Rattle.common.specs.declared.direction.Direction.{Direction}
 use Rattle.common.specs.declared.direction.Direction.TheVariants.{Input, Output}
 use Rattle.resolved.specs.declared.statement.Exit.{Exit}
 use Rattle.resolved.specs.declared.statement.Exit.TheVariants.{Normal, Return, Break, Continue, Throw}
-use Rattle.resolved.specs.Tree.{Expression, Integer, Logical, Read, Element, Unary, Binary, Short, Statement, Assign, Clear, Store, Receive, Send, Call, If, While, Leave, ReturnWith, Try, Nested, Block, Empty, Then, Handlers, NoMore, Catch}
+use Rattle.resolved.specs.Tree.{Expression, Integer, Logical, Read, Element, Unary, Binary, Short, Statement, Placed, Assign, Clear, Store, Receive, Send, Call, If, While, Leave, ReturnWith, Try, Nested, Block, Empty, Then, Handlers, NoMore, Catch}
 use Rattle.resolved.specs.Program.{Program, ProcedureEntry, ResultEntry, SlotEntry}
 use Rattle.resolved.specs.WellFormed.{VariableType, variable_type, scalar_by, has_length, array_by, is_array, same_base, prefix_base, operand_base, result_base, has_base, has_result, target_by, channel_is, arguments_match, parameters_of, call_matches, is_exception, may_leave_by, statement_fits, block_fits, handlers_fit}
 
@@ -140,9 +140,9 @@ module _ (program : Program) (procedure : ProcedureEntry) (more : Program) (whol
   mutual
     pub statement_fits_kept : (statement : Statement) → statement_fits program procedure statement ≡ true
         → statement_fits more whole statement ≡ true
-    statement_fits_kept (Assign at x e) h = scalar_kept x _ _ (λ base k. has_base_kept base e k) h
-    statement_fits_kept (Clear at slot) h = array_there (Local slot) h
-    statement_fits_kept (Store at array length index e) h =
+    statement_fits_kept (Placed at (Assign x e)) h = scalar_kept x _ _ (λ base k. has_base_kept base e k) h
+    statement_fits_kept (Placed at (Clear slot)) h = array_there (Local slot) h
+    statement_fits_kept (Placed at (Store array length index e)) h =
         let parts : (array_by (variable_type program procedure array) length (λ base. has_base program procedure base e) ≡ true)
         × (has_base program procedure Int index ≡ true) =
         and_parts (array_by (variable_type program procedure array) length (λ base. has_base program procedure base e)) _ h in
@@ -150,18 +150,18 @@ module _ (program : Program) (procedure : ProcedureEntry) (more : Program) (whol
         (array_kept array length (λ base. has_base program procedure base e) (λ base. has_base more whole base e)
         (λ base k. has_base_kept base e k) parts.0)
         (has_base_kept Int index parts.1)
-    statement_fits_kept (Receive at channel target) h =
+    statement_fits_kept (Placed at (Receive channel target)) h =
         let parts : (channel_is (slice_get program.channels channel) Input ≡ true) × (target_by program procedure target (same_base Int) ≡ true) =
         and_parts (channel_is (slice_get program.channels channel) Input) _ h in
         and_from (channel_is (slice_get more.channels channel) Input) (target_by more whole target (same_base Int))
         (as_much.channels channel Input parts.0) (target_kept target (same_base Int) parts.1)
-    statement_fits_kept (Send at channel e) h =
+    statement_fits_kept (Placed at (Send channel e)) h =
         let parts : (channel_is (slice_get program.channels channel) Output ≡ true) × (has_base program procedure Int e ≡ true) =
         and_parts (channel_is (slice_get program.channels channel) Output) _ h in
         and_from (channel_is (slice_get more.channels channel) Output) (has_base more whole Int e)
         (as_much.channels channel Output parts.0) (has_base_kept Int e parts.1)
-    statement_fits_kept (Call at f arguments target) h = call_kept f (slice_get program.procedures f) arguments target refl h
-    statement_fits_kept (If at e then_block else_block) h =
+    statement_fits_kept (Placed at (Call f arguments target)) h = call_kept f (slice_get program.procedures f) arguments target refl h
+    statement_fits_kept (Placed at (If e then_block else_block)) h =
         let outer : (has_base program procedure Boolean e && block_fits program procedure then_block ≡ true)
         × (block_fits program procedure else_block ≡ true) =
         and_parts (has_base program procedure Boolean e && block_fits program procedure then_block) _ h in
@@ -171,19 +171,19 @@ module _ (program : Program) (procedure : ProcedureEntry) (more : Program) (whol
         (and_from (has_base more whole Boolean e) (block_fits more whole then_block)
         (has_base_kept Boolean e inner.0) (block_fits_kept then_block inner.1))
         (block_fits_kept else_block outer.1)
-    statement_fits_kept (While at loop e body) h =
+    statement_fits_kept (Placed at (While loop e body)) h =
         let parts : (has_base program procedure Boolean e ≡ true) × (block_fits program procedure body ≡ true) =
         and_parts (has_base program procedure Boolean e) _ h in
         and_from (has_base more whole Boolean e) (block_fits more whole body) (has_base_kept Boolean e parts.0) (block_fits_kept body parts.1)
-    statement_fits_kept (Leave at exit) h = exit_kept exit h
-    statement_fits_kept (ReturnWith at None) h = ap (λ (result : Option ResultEntry). is_none result) as_much.result ∙ h
-    statement_fits_kept (ReturnWith at (Some e)) h =
+    statement_fits_kept (Placed at (Leave exit)) h = exit_kept exit h
+    statement_fits_kept (Placed at (ReturnWith None)) h = ap (λ (result : Option ResultEntry). is_none result) as_much.result ∙ h
+    statement_fits_kept (Placed at (ReturnWith (Some e))) h =
         ap (λ result. has_result result (λ base. has_base more whole base e)) as_much.result ∙ returned_kept procedure.result e h
-    statement_fits_kept (Try at block handlers) h =
+    statement_fits_kept (Placed at (Try block handlers)) h =
         let parts : (block_fits program procedure block ≡ true) × (handlers_fit program procedure handlers ≡ true) =
         and_parts (block_fits program procedure block) _ h in
         and_from (block_fits more whole block) (handlers_fit more whole handlers) (block_fits_kept block parts.0) (handlers_fit_kept handlers parts.1)
-    statement_fits_kept (Nested at block) h = block_fits_kept block h
+    statement_fits_kept (Placed at (Nested block)) h = block_fits_kept block h
 
     pub block_fits_kept : (block : Block) → block_fits program procedure block ≡ true → block_fits more whole block ≡ true
     block_fits_kept Empty h = refl

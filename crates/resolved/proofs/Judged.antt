@@ -9,7 +9,7 @@ use Rattle.std.proofs.lemmas.List.Folds.{list_any-append}
 use Rattle.resolved.specs.declared.statement.Exit.{Exit}
 use Rattle.resolved.specs.declared.statement.Exit.TheVariants.{Normal, Return, Break, Continue, Throw}
 use Rattle.resolved.specs.declared.target.Target.TheVariants.{ToBegin, ToParameter, ToEnd, ToThrown, ToLoop}
-use Rattle.resolved.specs.Tree.{Expression, Statement, Assign, Clear, Store, Receive, Send, Call, If, While, Leave, ReturnWith, Try, Nested, Block, Empty, Then, Handlers, NoMore, Catch}
+use Rattle.resolved.specs.Tree.{Expression, Statement, Placed, Assign, Clear, Store, Receive, Send, Call, If, While, Leave, ReturnWith, Try, Nested, Block, Empty, Then, Handlers, NoMore, Catch}
 use Rattle.resolved.specs.Program.{Program, ProcedureEntry, ThrownEntry, procedure_at}
 use Rattle.resolved.specs.BitUse.{expression_uses_bits, statement_uses_bits, block_uses_bits, handlers_use_bits, uses_bits, procedures_use_bits}
 use Rattle.resolved.specs.Exits.{same_exit, has_exit, one_exit, list_if, leaves_loop, raises, thrown_exits, taken_by, declared_by, handles, passes, then_exits, statement_exits, block_exits, handlers_exits}
@@ -110,22 +110,22 @@ module _ (scope : Scope) where
   mutual
     pub exits-of : (s : Statement) (loop reached : Bool) (pc : Join)
         → (rule_of scope loop reached pc s).exits ≡ statement_exits scope.program s
-    exits-of (Assign at x e) loop reached pc = refl
-    exits-of (Clear at slot) loop reached pc = refl
-    exits-of (Store at array count index e) loop reached pc = refl
-    exits-of (Receive at channel target) loop reached pc = refl
-    exits-of (Send at channel e) loop reached pc = refl
-    exits-of (Call at procedure arguments target) loop reached pc = refl
-    exits-of (If at e then_block else_block) loop reached pc =
+    exits-of (Placed at (Assign x e)) loop reached pc = refl
+    exits-of (Placed at (Clear slot)) loop reached pc = refl
+    exits-of (Placed at (Store array count index e)) loop reached pc = refl
+    exits-of (Placed at (Receive channel target)) loop reached pc = refl
+    exits-of (Placed at (Send channel e)) loop reached pc = refl
+    exits-of (Placed at (Call procedure arguments target)) loop reached pc = refl
+    exits-of (Placed at (If e then_block else_block)) loop reached pc =
         let branch : Join = pc ++ raise_label scope e ++ value_label scope e in
         rw (block_exits-of then_block loop true branch, block_exits-of else_block loop true branch) refl
-    exits-of (While at l e body) loop reached pc =
+    exits-of (Placed at (While l e body)) loop reached pc =
         let b : Join = one (label_of scope.program (ToLoop scope.number l)) ++ raise_label scope e ++ value_label scope e in
         rw (block_exits-of body true true b) refl
-    exits-of (Leave at exit) loop reached pc = refl
-    exits-of (ReturnWith at None) loop reached pc = refl
-    exits-of (ReturnWith at (Some e)) loop reached pc = refl
-    exits-of (Try at block handlers) loop reached pc =
+    exits-of (Placed at (Leave exit)) loop reached pc = refl
+    exits-of (Placed at (ReturnWith None)) loop reached pc = refl
+    exits-of (Placed at (ReturnWith (Some e))) loop reached pc = refl
+    exits-of (Placed at (Try block handlers)) loop reached pc =
         let inner : Judgement = whole pc (rule_of_block scope loop true pc block) in
         both (filter (λ exit. not (has_exit (taken_by handlers) exit)) inner.exits)
         (filter (passes handlers) (block_exits scope.program block))
@@ -133,7 +133,7 @@ module _ (scope : Scope) where
         (filter-alike (λ exit. not (has_exit (taken_by handlers) exit)) (passes handlers) (stays-passes handlers) inner.exits
         ∙ ap (filter (passes handlers)) (block_exits-of block loop true pc))
         (handlers_exits-of handlers loop inner.exits inner.labels)
-    exits-of (Nested at block) loop reached pc = block_exits-of block loop true pc
+    exits-of (Placed at (Nested block)) loop reached pc = block_exits-of block loop true pc
 
     block_exits-of : (block : Block) (loop reached : Bool) (pc : Join)
         → (rule_of_block scope loop reached pc block).exits ≡ block_exits scope.program block
@@ -158,25 +158,25 @@ module _ (scope : Scope) where
   mutual
     pub faults-of : (s : Statement) (loop reached : Bool) (pc : Join)
         → (rule_of scope loop reached pc s).faults ≡ statement_faults scope.program loop reached s
-    faults-of (Assign at x e) loop reached pc = refl
-    faults-of (Clear at slot) loop reached pc = refl
-    faults-of (Store at array count index e) loop reached pc = refl
-    faults-of (Receive at channel target) loop reached pc = refl
-    faults-of (Send at channel e) loop reached pc = refl
-    faults-of (Call at procedure arguments target) loop reached pc = refl
-    faults-of (If at e then_block else_block) loop reached pc =
+    faults-of (Placed at (Assign x e)) loop reached pc = refl
+    faults-of (Placed at (Clear slot)) loop reached pc = refl
+    faults-of (Placed at (Store array count index e)) loop reached pc = refl
+    faults-of (Placed at (Receive channel target)) loop reached pc = refl
+    faults-of (Placed at (Send channel e)) loop reached pc = refl
+    faults-of (Placed at (Call procedure arguments target)) loop reached pc = refl
+    faults-of (Placed at (If e then_block else_block)) loop reached pc =
         let branch : Join = pc ++ raise_label scope e ++ value_label scope e in
         rw (block_faults-of then_block loop true branch, block_faults-of else_block loop true branch) refl
-    faults-of (While at l e body) loop reached pc =
+    faults-of (Placed at (While l e body)) loop reached pc =
         let b : Join = one (label_of scope.program (ToLoop scope.number l)) ++ raise_label scope e ++ value_label scope e in
         rw (block_faults-of body true true b) refl
-    faults-of (Leave at exit) loop reached pc = refl
-    faults-of (ReturnWith at None) loop reached pc = refl
-    faults-of (ReturnWith at (Some e)) loop reached pc = refl
-    faults-of (Try at block handlers) loop reached pc =
+    faults-of (Placed at (Leave exit)) loop reached pc = refl
+    faults-of (Placed at (ReturnWith None)) loop reached pc = refl
+    faults-of (Placed at (ReturnWith (Some e))) loop reached pc = refl
+    faults-of (Placed at (Try block handlers)) loop reached pc =
         let inner : Judgement = whole pc (rule_of_block scope loop true pc block) in
         rw (block_faults-of block loop true pc, handlers_faults-of handlers loop inner.exits inner.labels, block_exits-of block loop true pc) refl
-    faults-of (Nested at block) loop reached pc = rw (block_faults-of block loop true pc) refl
+    faults-of (Placed at (Nested block)) loop reached pc = rw (block_faults-of block loop true pc) refl
 
     block_faults-of : (block : Block) (loop reached : Bool) (pc : Join)
         → (rule_of_block scope loop reached pc block).faults ≡ block_faults scope.program loop reached block
@@ -206,30 +206,30 @@ module _ (scope : Scope) where
   mutual
     pub bits-of : (s : Statement) (loop reached : Bool) (pc : Join)
         → any_bits (rule_of scope loop reached pc s).expressions ≡ statement_uses_bits s
-    bits-of (Assign at x e) loop reached pc = or-false (expression_uses_bits e)
-    bits-of (Clear at slot) loop reached pc = refl
-    bits-of (Store at array count index e) loop reached pc = ap (λ b. expression_uses_bits index || b) (or-false (expression_uses_bits e))
-    bits-of (Receive at channel target) loop reached pc = refl
-    bits-of (Send at channel e) loop reached pc = or-false (expression_uses_bits e)
-    bits-of (Call at procedure arguments target) loop reached pc = refl
-    bits-of (If at e then_block else_block) loop reached pc =
+    bits-of (Placed at (Assign x e)) loop reached pc = or-false (expression_uses_bits e)
+    bits-of (Placed at (Clear slot)) loop reached pc = refl
+    bits-of (Placed at (Store array count index e)) loop reached pc = ap (λ b. expression_uses_bits index || b) (or-false (expression_uses_bits e))
+    bits-of (Placed at (Receive channel target)) loop reached pc = refl
+    bits-of (Placed at (Send channel e)) loop reached pc = or-false (expression_uses_bits e)
+    bits-of (Placed at (Call procedure arguments target)) loop reached pc = refl
+    bits-of (Placed at (If e then_block else_block)) loop reached pc =
         let branch : Join = pc ++ raise_label scope e ++ value_label scope e in
         let first : List Expression = (rule_of_block scope loop true branch then_block).expressions in
         let second : List Expression = (rule_of_block scope loop true branch else_block).expressions in
         ap (λ b. expression_uses_bits e || b) (list_any-append expression_uses_bits first second)
         ∙ rw (block_bits-of then_block loop true branch, block_bits-of else_block loop true branch)
         (sym (or_assoc (expression_uses_bits e) (block_uses_bits then_block) (block_uses_bits else_block)))
-    bits-of (While at l e body) loop reached pc =
+    bits-of (Placed at (While l e body)) loop reached pc =
         let b : Join = one (label_of scope.program (ToLoop scope.number l)) ++ raise_label scope e ++ value_label scope e in
         ap (λ b. expression_uses_bits e || b) (block_bits-of body true true b)
-    bits-of (Leave at exit) loop reached pc = refl
-    bits-of (ReturnWith at None) loop reached pc = refl
-    bits-of (ReturnWith at (Some e)) loop reached pc = or-false (expression_uses_bits e)
-    bits-of (Try at block handlers) loop reached pc =
+    bits-of (Placed at (Leave exit)) loop reached pc = refl
+    bits-of (Placed at (ReturnWith None)) loop reached pc = refl
+    bits-of (Placed at (ReturnWith (Some e))) loop reached pc = or-false (expression_uses_bits e)
+    bits-of (Placed at (Try block handlers)) loop reached pc =
         let inner : Judgement = whole pc (rule_of_block scope loop true pc block) in
         list_any-append expression_uses_bits inner.expressions (rule_of_handlers scope loop inner.exits inner.labels handlers).expressions
         ∙ rw (block_bits-of block loop true pc, handlers_bits-of handlers loop inner.exits inner.labels) refl
-    bits-of (Nested at block) loop reached pc = block_bits-of block loop true pc
+    bits-of (Placed at (Nested block)) loop reached pc = block_bits-of block loop true pc
 
     block_bits-of : (block : Block) (loop reached : Bool) (pc : Join)
         → any_bits (rule_of_block scope loop reached pc block).expressions ≡ block_uses_bits block
@@ -260,36 +260,36 @@ module _ (scope : Scope) where
   mutual
     pub labels-of : (s : Statement) (loop reached : Bool) (pc : Join)
         → Alike (whole pc (rule_of scope loop reached pc s)).labels (statement_exit_labels scope pc s)
-    labels-of (Assign at x e) loop reached pc =
+    labels-of (Placed at (Assign x e)) loop reached pc =
         let q : Join = pc ++ raise_label scope e in own-alike reached at (e ∷ []) (Normal ∷ thrown_exits (raises e)) pc q []
-    labels-of (Clear at slot) loop reached pc = own-alike reached at [] (Normal ∷ []) pc pc []
-    labels-of (Store at array count index e) loop reached pc = own-alike reached at [] (statement_exits scope.program (Store at array count index e)) pc _ []
-    labels-of (Receive at channel target) loop reached pc = own-alike reached at [] (statement_exits scope.program (Receive at channel target)) pc _ []
-    labels-of (Send at channel e) loop reached pc =
+    labels-of (Placed at (Clear slot)) loop reached pc = own-alike reached at [] (Normal ∷ []) pc pc []
+    labels-of (Placed at (Store array count index e)) loop reached pc = own-alike reached at [] (statement_exits scope.program (Placed at (Store array count index e))) pc _ []
+    labels-of (Placed at (Receive channel target)) loop reached pc = own-alike reached at [] (statement_exits scope.program (Placed at (Receive channel target))) pc _ []
+    labels-of (Placed at (Send channel e)) loop reached pc =
         let q : Join = pc ++ raise_label scope e in own-alike reached at (e ∷ []) (Normal ∷ thrown_exits (raises e)) pc q []
-    labels-of (Call at procedure arguments target) loop reached pc = λ exit. refl
-    labels-of (If at e then_block else_block) loop reached pc =
+    labels-of (Placed at (Call procedure arguments target)) loop reached pc = λ exit. refl
+    labels-of (Placed at (If e then_block else_block)) loop reached pc =
         let branch : Join = pc ++ raise_label scope e ++ value_label scope e in
-        let s : Statement = If at e then_block else_block in
+        let s : Statement = Placed at (If e then_block else_block) in
         whole-alike pc (rule_of scope loop reached pc s) (statement_exits scope.program s) _ (exits-of s loop reached pc)
         (λ exit. rw (
           block_whole-of then_block loop true branch (block_labels-of then_block loop true branch) exit,
           block_whole-of else_block loop true branch (block_labels-of else_block loop true branch) exit,
         ) refl)
-    labels-of (While at l e body) loop reached pc =
+    labels-of (Placed at (While l e body)) loop reached pc =
         let q : Join = one (label_of scope.program (ToLoop scope.number l)) ++ raise_label scope e in
         let b : Join = q ++ value_label scope e in
-        let s : Statement = While at l e body in
+        let s : Statement = Placed at (While l e body) in
         let inner : Alike (whole b (rule_of_block scope true true b body)).labels (block_exit_labels scope b body) =
         block_whole-of body true true b (block_labels-of body true true b) in
         whole-alike pc (rule_of scope loop reached pc s) (statement_exits scope.program s) _ (exits-of s loop reached pc)
         (λ exit. rw (inner exit, inner Break) (loop-alike (raises e) q (b ++ block_exit_labels scope b body Break) (block_exit_labels scope b body) exit))
-    labels-of (Leave at exit) loop reached pc = own-alike reached at [] (exit ∷ []) pc pc []
-    labels-of (ReturnWith at None) loop reached pc = own-alike reached at [] (Return ∷ []) pc pc []
-    labels-of (ReturnWith at (Some e)) loop reached pc =
+    labels-of (Placed at (Leave exit)) loop reached pc = own-alike reached at [] (exit ∷ []) pc pc []
+    labels-of (Placed at (ReturnWith None)) loop reached pc = own-alike reached at [] (Return ∷ []) pc pc []
+    labels-of (Placed at (ReturnWith (Some e))) loop reached pc =
         let q : Join = pc ++ raise_label scope e in own-alike reached at (e ∷ []) (Return ∷ thrown_exits (raises e)) pc q []
-    labels-of (Try at block handlers) loop reached pc =
-        let s : Statement = Try at block handlers in
+    labels-of (Placed at (Try block handlers)) loop reached pc =
+        let s : Statement = Placed at (Try block handlers) in
         let block_whole : Judgement = whole pc (rule_of_block scope loop true pc block) in
         let inner : Alike block_whole.labels (block_exit_labels scope pc block) =
         block_whole-of block loop true pc (block_labels-of block loop true pc) in
@@ -299,8 +299,8 @@ module _ (scope : Scope) where
           inner exit,
           handlers_labels-of handlers loop block_whole.exits block_whole.labels (block_exit_labels scope pc block) inner exit,
         ) refl)
-    labels-of (Nested at block) loop reached pc =
-        let s : Statement = Nested at block in
+    labels-of (Placed at (Nested block)) loop reached pc =
+        let s : Statement = Placed at (Nested block) in
         whole-alike pc (rule_of scope loop reached pc s) (statement_exits scope.program s) (block_exit_labels scope pc block) (exits-of s loop reached pc)
         (block_whole-of block loop true pc (block_labels-of block loop true pc))
 
@@ -340,28 +340,28 @@ module _ (scope : Scope) where
   mutual
     pub demands-of : (s : Statement) (loop reached : Bool) (pc : Join)
         → (rule_of scope loop reached pc s).demands ≡ statement_demands scope pc s
-    demands-of (Assign at x e) loop reached pc = refl
-    demands-of (Clear at slot) loop reached pc = refl
-    demands-of (Store at array count index e) loop reached pc = refl
-    demands-of (Receive at channel target) loop reached pc = refl
-    demands-of (Send at channel e) loop reached pc = refl
-    demands-of (Call at procedure arguments target) loop reached pc =
+    demands-of (Placed at (Assign x e)) loop reached pc = refl
+    demands-of (Placed at (Clear slot)) loop reached pc = refl
+    demands-of (Placed at (Store array count index e)) loop reached pc = refl
+    demands-of (Placed at (Receive channel target)) loop reached pc = refl
+    demands-of (Placed at (Send channel e)) loop reached pc = refl
+    demands-of (Placed at (Call procedure arguments target)) loop reached pc =
         rw (arguments-of at (pc ++ flat_map (raise_label scope) arguments) procedure 0 arguments) refl
-    demands-of (If at e then_block else_block) loop reached pc =
+    demands-of (Placed at (If e then_block else_block)) loop reached pc =
         let branch : Join = pc ++ raise_label scope e ++ value_label scope e in
         rw (block_demands-of then_block loop true branch, block_demands-of else_block loop true branch) refl
-    demands-of (While at l e body) loop reached pc =
+    demands-of (Placed at (While l e body)) loop reached pc =
         let b : Join = one (label_of scope.program (ToLoop scope.number l)) ++ raise_label scope e ++ value_label scope e in
         rw (block_demands-of body true true b, inner_labels-of body true b Normal, inner_labels-of body true b Continue) refl
-    demands-of (Leave at exit) loop reached pc = refl
-    demands-of (ReturnWith at None) loop reached pc = refl
-    demands-of (ReturnWith at (Some e)) loop reached pc = refl
-    demands-of (Try at block handlers) loop reached pc =
+    demands-of (Placed at (Leave exit)) loop reached pc = refl
+    demands-of (Placed at (ReturnWith None)) loop reached pc = refl
+    demands-of (Placed at (ReturnWith (Some e))) loop reached pc = refl
+    demands-of (Placed at (Try block handlers)) loop reached pc =
         let inner : Judgement = whole pc (rule_of_block scope loop true pc block) in
         both inner.demands (block_demands scope pc block) (rule_of_handlers scope loop inner.exits inner.labels handlers).demands
         (handlers_demands scope (block_exit_labels scope pc block) handlers) (block_demands-of block loop true pc)
         (handlers_demands-of handlers loop inner.exits inner.labels (block_exit_labels scope pc block) (inner_labels-of block loop pc))
-    demands-of (Nested at block) loop reached pc = block_demands-of block loop true pc
+    demands-of (Placed at (Nested block)) loop reached pc = block_demands-of block loop true pc
 
     block_demands-of : (block : Block) (loop reached : Bool) (pc : Join)
         → (rule_of_block scope loop reached pc block).demands ≡ block_demands scope pc block

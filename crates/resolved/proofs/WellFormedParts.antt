@@ -5,7 +5,8 @@ use Rattle.std.specs.List.{list_all}
 use Rattle.std.proofs.lemmas.Option.{get_or_from_slice_get}
 use Rattle.std.proofs.lemmas.Bool.{and_from, and_parts}
 use Rattle.common.specs.declared.base_type.BaseType.{BaseType}
-use Rattle.resolved.specs.Program.{Program, ProcedureEntry, ResultEntry, SlotEntry, ChannelEntry, procedure_at}
+use Rattle.labels.specs.Channel.{ChannelContents}
+use Rattle.resolved.specs.Program.{Program, ProcedureEntry, ResultEntry, SlotEntry, procedure_at}
 use Rattle.resolved.specs.WellFormed.{has_result, parameter_fits, parameters_of, size_fits, written_fits, cell_count, result_fits, label_fits, label_nodes, throws_fit, block_fits, block_loops, counts_from, procedure_fits, globals_fit, main_fits, program_nodes, node_limit, well_formed}
 use Rattle.common.specs.declared.limits.TheConstants.{MAX_CELLS, MAX_PRINCIPALS}
 
@@ -125,23 +126,23 @@ procedure_from_parts program procedure parts =
 -- a well-formed program
 pub record ProgramParts (program : Program) : Type 0 where
   pub principals_fit : nat_le (length program.hierarchy.names) MAX_PRINCIPALS ≡ true
-  pub channels_fit : list_all (λ (entry : ChannelEntry). label_fits program.hierarchy entry.label) program.channels ≡ true
+  pub channels_fit : list_all (λ (entry : ChannelContents). label_fits program.hierarchy entry.label) program.channels ≡ true
   pub globals_are : globals_fit program ≡ true
   pub procedures_fit : list_all (procedure_fits program) program.procedures ≡ true
   pub main_is : main_fits (slice_get program.procedures program.main) ≡ true
   pub nodes_fit : nat_le (program_nodes program) node_limit ≡ true
-  pub labels_fit : list_all (λ (entry : ChannelEntry). nat_le (label_nodes entry.label) node_limit) program.channels ≡ true
+  pub labels_fit : list_all (λ (entry : ChannelContents). nat_le (label_nodes entry.label) node_limit) program.channels ≡ true
 
 pub program_parts : (program : Program) → well_formed program ≡ true → ProgramParts program
 program_parts program h =
     let parts = seven
     (nat_le (length program.hierarchy.names) MAX_PRINCIPALS)
-    (list_all (λ (entry : ChannelEntry). label_fits program.hierarchy entry.label) program.channels)
+    (list_all (λ (entry : ChannelContents). label_fits program.hierarchy entry.label) program.channels)
     (globals_fit program)
     (list_all (procedure_fits program) program.procedures)
     (main_fits (slice_get program.procedures program.main))
     (nat_le (program_nodes program) node_limit)
-    (list_all (λ (entry : ChannelEntry). nat_le (label_nodes entry.label) node_limit) program.channels)
+    (list_all (λ (entry : ChannelContents). nat_le (label_nodes entry.label) node_limit) program.channels)
     h in
     record {
       principals_fit = parts.0;
@@ -157,12 +158,12 @@ pub program_from_parts : (program : Program) → ProgramParts program → well_f
 program_from_parts program parts =
     seven_back
     (nat_le (length program.hierarchy.names) MAX_PRINCIPALS)
-    (list_all (λ (entry : ChannelEntry). label_fits program.hierarchy entry.label) program.channels)
+    (list_all (λ (entry : ChannelContents). label_fits program.hierarchy entry.label) program.channels)
     (globals_fit program)
     (list_all (procedure_fits program) program.procedures)
     (main_fits (slice_get program.procedures program.main))
     (nat_le (program_nodes program) node_limit)
-    (list_all (λ (entry : ChannelEntry). nat_le (label_nodes entry.label) node_limit) program.channels)
+    (list_all (λ (entry : ChannelContents). nat_le (label_nodes entry.label) node_limit) program.channels)
     parts.principals_fit parts.channels_fit parts.globals_are parts.procedures_fit parts.main_is parts.nodes_fit parts.labels_fit
 
 -- what passes a test that all elements pass

@@ -5,7 +5,7 @@ use Rattle.std.specs.List.{list_any}
 use Rattle.common.specs.declared.operator.Operator.{Operator}
 use Rattle.common.specs.declared.operator.Operator.TheVariants.{Compute}
 use Rattle.common.specs.declared.operator.Arithmetic.TheVariants.{Bits}
-use Rattle.resolved.specs.Tree.{Expression, Integer, Logical, Read, Element, Unary, Binary, Short, Statement, Assign, Clear, Store, Receive, Send, Call, If, While, Leave, ReturnWith, Try, Nested, Block, Empty, Then, Handlers, NoMore, Catch}
+use Rattle.resolved.specs.Tree.{Expression, Integer, Logical, Read, Element, Unary, Binary, Short, Statement, Placed, Assign, Clear, Store, Receive, Send, Call, If, While, Leave, ReturnWith, Try, Nested, Block, Empty, Then, Handlers, NoMore, Catch}
 use Rattle.resolved.specs.Program.{Program, ProcedureEntry}
 use Rattle.resolved.specs.Labelled.{program_judgement}
 
@@ -32,19 +32,19 @@ uses_bits program = list_any expression_uses_bits (program_judgement program).ex
 -- whether one is in a statement, a block or handlers
 abbrev mutual
   pub statement_uses_bits : Statement → Bool
-  statement_uses_bits (Assign at x e) = expression_uses_bits e
-  statement_uses_bits (Clear at slot) = false
-  statement_uses_bits (Store at array length index e) = expression_uses_bits index || expression_uses_bits e
-  statement_uses_bits (Receive at channel target) = false
-  statement_uses_bits (Send at channel e) = expression_uses_bits e
-  statement_uses_bits (Call at procedure arguments target) = list_any expression_uses_bits arguments
-  statement_uses_bits (If at e then_block else_block) = expression_uses_bits e || block_uses_bits then_block || block_uses_bits else_block
-  statement_uses_bits (While at loop e body) = expression_uses_bits e || block_uses_bits body
-  statement_uses_bits (Leave at exit) = false
-  statement_uses_bits (ReturnWith at None) = false
-  statement_uses_bits (ReturnWith at (Some e)) = expression_uses_bits e
-  statement_uses_bits (Try at block handlers) = block_uses_bits block || handlers_use_bits handlers
-  statement_uses_bits (Nested at block) = block_uses_bits block
+  statement_uses_bits (Placed at (Assign x e)) = expression_uses_bits e
+  statement_uses_bits (Placed at (Clear slot)) = false
+  statement_uses_bits (Placed at (Store array length index e)) = expression_uses_bits index || expression_uses_bits e
+  statement_uses_bits (Placed at (Receive channel target)) = false
+  statement_uses_bits (Placed at (Send channel e)) = expression_uses_bits e
+  statement_uses_bits (Placed at (Call procedure arguments target)) = list_any expression_uses_bits arguments
+  statement_uses_bits (Placed at (If e then_block else_block)) = expression_uses_bits e || block_uses_bits then_block || block_uses_bits else_block
+  statement_uses_bits (Placed at (While loop e body)) = expression_uses_bits e || block_uses_bits body
+  statement_uses_bits (Placed at (Leave exit)) = false
+  statement_uses_bits (Placed at (ReturnWith None)) = false
+  statement_uses_bits (Placed at (ReturnWith (Some e))) = expression_uses_bits e
+  statement_uses_bits (Placed at (Try block handlers)) = block_uses_bits block || handlers_use_bits handlers
+  statement_uses_bits (Placed at (Nested block)) = block_uses_bits block
 
   pub block_uses_bits : Block → Bool
   block_uses_bits Empty = false

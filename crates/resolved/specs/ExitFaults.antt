@@ -7,7 +7,7 @@ use Rattle.resolved.specs.declared.fault.ExitRefusalKind.TheVariants.{OutsideLoo
 use Rattle.common.specs.declared.refusal.RefusalAt.{RefusalAt}
 use Rattle.resolved.specs.declared.statement.Exit.{Exit}
 use Rattle.resolved.specs.declared.statement.Exit.TheVariants.{Normal, Return, Break, Continue, Throw}
-use Rattle.resolved.specs.Tree.{Statement, Assign, Clear, Store, Receive, Send, Call, If, While, Leave, ReturnWith, Try, Nested, Block, Empty, Then, Handlers, NoMore, Catch}
+use Rattle.resolved.specs.Tree.{Statement, Placed, Assign, Clear, Store, Receive, Send, Call, If, While, Leave, ReturnWith, Try, Nested, Block, Empty, Then, Handlers, NoMore, Catch}
 use Rattle.resolved.specs.Program.{Program, ProcedureEntry}
 use Rattle.resolved.specs.Exits.{same_exit, has_exit, thrown_exits, fault_unless, declared_by, statement_exits, block_exits}
 
@@ -15,24 +15,24 @@ use Rattle.resolved.specs.Exits.{same_exit, has_exit, thrown_exits, fault_unless
 -- `continue` stand in a loop; the exits are those that the handlers before have not taken
 abbrev mutual
   pub statement_faults : Program → (in_loop reached : Bool) → Statement → List (RefusalAt ExitRefusalKind)
-  statement_faults program in_loop reached (Assign at x e) = fault_unless reached Unreachable at
-  statement_faults program in_loop reached (Clear at slot) = fault_unless reached Unreachable at
-  statement_faults program in_loop reached (Store at array length index e) = fault_unless reached Unreachable at
-  statement_faults program in_loop reached (Receive at channel target) = fault_unless reached Unreachable at
-  statement_faults program in_loop reached (Send at channel e) = fault_unless reached Unreachable at
-  statement_faults program in_loop reached (Call at procedure arguments target) = fault_unless reached Unreachable at
-  statement_faults program in_loop reached (If at e then_block else_block) =
+  statement_faults program in_loop reached (Placed at (Assign x e)) = fault_unless reached Unreachable at
+  statement_faults program in_loop reached (Placed at (Clear slot)) = fault_unless reached Unreachable at
+  statement_faults program in_loop reached (Placed at (Store array length index e)) = fault_unless reached Unreachable at
+  statement_faults program in_loop reached (Placed at (Receive channel target)) = fault_unless reached Unreachable at
+  statement_faults program in_loop reached (Placed at (Send channel e)) = fault_unless reached Unreachable at
+  statement_faults program in_loop reached (Placed at (Call procedure arguments target)) = fault_unless reached Unreachable at
+  statement_faults program in_loop reached (Placed at (If e then_block else_block)) =
       fault_unless reached Unreachable at
       ++ block_faults program in_loop true then_block ++ block_faults program in_loop true else_block
-  statement_faults program in_loop reached (While at loop e body) =
+  statement_faults program in_loop reached (Placed at (While loop e body)) =
       fault_unless reached Unreachable at ++ block_faults program true true body
-  statement_faults program in_loop reached (Leave at exit) =
+  statement_faults program in_loop reached (Placed at (Leave exit)) =
       fault_unless (not (has_exit (Break ∷ Continue ∷ []) exit) || in_loop) OutsideLoop at ++ fault_unless reached Unreachable at
-  statement_faults program in_loop reached (ReturnWith at value) = fault_unless reached Unreachable at
-  statement_faults program in_loop reached (Try at block handlers) =
+  statement_faults program in_loop reached (Placed at (ReturnWith value)) = fault_unless reached Unreachable at
+  statement_faults program in_loop reached (Placed at (Try block handlers)) =
       fault_unless reached Unreachable at
       ++ block_faults program in_loop true block ++ handlers_faults program in_loop (block_exits program block) handlers
-  statement_faults program in_loop reached (Nested at block) =
+  statement_faults program in_loop reached (Placed at (Nested block)) =
       fault_unless reached Unreachable at ++ block_faults program in_loop true block
 
   pub block_faults : Program → (in_loop reached : Bool) → Block → List (RefusalAt ExitRefusalKind)

@@ -12,7 +12,7 @@ use Rattle.common.specs.declared.refusal.RefusalAt.{RefusalAt}
 use Rattle.resolved.specs.declared.statement.Exit.{Exit}
 use Rattle.resolved.specs.declared.statement.Exit.TheVariants.{Normal, Return, Break, Continue, Throw}
 use Rattle.resolved.specs.contracts.statement.ExitPartialEq.TheImpl.{eq-value}
-use Rattle.resolved.specs.Tree.{Expression, Integer, Logical, Read, Element, Unary, Binary, Short, Statement, Assign, Clear, Store, Receive, Send, Call, If, While, Leave, ReturnWith, Try, Nested, Block, Empty, Then, Handlers, NoMore, Catch}
+use Rattle.resolved.specs.Tree.{Expression, Integer, Logical, Read, Element, Unary, Binary, Short, Statement, Placed, Assign, Clear, Store, Receive, Send, Call, If, While, Leave, ReturnWith, Try, Nested, Block, Empty, Then, Handlers, NoMore, Catch}
 use Rattle.resolved.specs.Program.{Program, ThrownEntry, procedure_at}
 use Rattle.resolved.specs.Value.{literal_number, in_range}
 use Rattle.common.specs.Integers.{is_zero}
@@ -110,24 +110,24 @@ then_exits first rest = if has_exit first Normal then filter (λ exit. not (same
 -- the possible exits of statements, blocks and handlers; one may be named several times
 abbrev mutual
   pub statement_exits : Program → Statement → List Exit
-  statement_exits program (Assign at x e) = Normal ∷ thrown_exits (raises e)
-  statement_exits program (Clear at slot) = Normal ∷ []
-  statement_exits program (Store at array length index e) =
+  statement_exits program (Placed at (Assign x e)) = Normal ∷ thrown_exits (raises e)
+  statement_exits program (Placed at (Clear slot)) = Normal ∷ []
+  statement_exits program (Placed at (Store array length index e)) =
       Normal ∷ thrown_exits (raises index ++ raises e ++ index_raises index length)
-  statement_exits program (Receive at channel target) = Normal ∷ Throw END ∷ []
-  statement_exits program (Send at channel e) = Normal ∷ thrown_exits (raises e)
-  statement_exits program (Call at procedure arguments target) =
+  statement_exits program (Placed at (Receive channel target)) = Normal ∷ Throw END ∷ []
+  statement_exits program (Placed at (Send channel e)) = Normal ∷ thrown_exits (raises e)
+  statement_exits program (Placed at (Call procedure arguments target)) =
       Normal ∷ thrown_exits (flat_map raises arguments ++ declared_by (procedure_at program procedure).throws)
-  statement_exits program (If at e then_block else_block) =
+  statement_exits program (Placed at (If e then_block else_block)) =
       thrown_exits (raises e) ++ block_exits program then_block ++ block_exits program else_block
-  statement_exits program (While at loop e body) =
+  statement_exits program (Placed at (While loop e body)) =
       Normal ∷ (thrown_exits (raises e) ++ filter leaves_loop (block_exits program body))
-  statement_exits program (Leave at exit) = exit ∷ []
-  statement_exits program (ReturnWith at None) = Return ∷ []
-  statement_exits program (ReturnWith at (Some e)) = Return ∷ thrown_exits (raises e)
-  statement_exits program (Try at block handlers) =
+  statement_exits program (Placed at (Leave exit)) = exit ∷ []
+  statement_exits program (Placed at (ReturnWith None)) = Return ∷ []
+  statement_exits program (Placed at (ReturnWith (Some e))) = Return ∷ thrown_exits (raises e)
+  statement_exits program (Placed at (Try block handlers)) =
       filter (passes handlers) (block_exits program block) ++ handlers_exits program handlers
-  statement_exits program (Nested at block) = block_exits program block
+  statement_exits program (Placed at (Nested block)) = block_exits program block
 
   pub block_exits : Program → Block → List Exit
   block_exits program Empty = Normal ∷ []

@@ -7,7 +7,7 @@ use Rattle.resolved.specs.declared.statement.Exit.{Exit}
 use Rattle.resolved.specs.declared.statement.Exit.TheVariants.{Normal, Break, Continue, Throw}
 use Rattle.resolved.specs.declared.target.Target.{Target}
 use Rattle.resolved.specs.declared.target.Target.TheVariants.{ToVariable, ToChannel, ToBegin, ToValue, ToLoop}
-use Rattle.resolved.specs.Tree.{Expression, Statement, Assign, Clear, Store, Receive, Send, Call, If, While, Leave, ReturnWith, Try, Nested, Block, Empty, Then, Handlers, NoMore, Catch}
+use Rattle.resolved.specs.Tree.{Expression, Statement, Placed, Assign, Clear, Store, Receive, Send, Call, If, While, Leave, ReturnWith, Try, Nested, Block, Empty, Then, Handlers, NoMore, Catch}
 use Rattle.resolved.specs.Program.{Program, ProcedureEntry}
 use Rattle.resolved.specs.Exits.{same_exit, has_exit, one_exit, leaves_loop, index_can_raise, raises, thrown_exits, passes, statement_exits, block_exits, list_if}
 use Rattle.resolved.specs.Labelled.{Scope, here, Join, one, label_of, value_label, raise_label, ExitLabels, call_exit_labels, Demand, demand, target_demand, argument_demands, exit_demands}
@@ -48,31 +48,31 @@ whole_block scope pc block inner = record inner { exits = at_exits (block_exits 
 -- X and demands of statements, blocks and handlers
 abbrev mutual
   pub label_rule : Scope → (pc : Join) → Statement → LabelRule
-  label_rule scope pc (Assign at x e) = value_to scope pc at 1 e (ToVariable scope.number x)
-  label_rule scope pc (Clear at slot) =
+  label_rule scope pc (Placed at (Assign x e)) = value_to scope pc at 1 e (ToVariable scope.number x)
+  label_rule scope pc (Placed at (Clear slot)) =
       record { exits = λ exit. pc; demands = demand scope.program at 2 pc (ToVariable scope.number (Local slot)) }
-  label_rule scope pc (Store at array length index e) =
+  label_rule scope pc (Placed at (Store array length index e)) =
       let out_of_range : Join = list_if (index_can_raise index length) (value_label scope index) in
       let q : Join = pc ++ raise_label scope index ++ raise_label scope e ++ out_of_range in
       let left : Join = q ++ value_label scope index ++ value_label scope e in
       record { exits = λ exit. q; demands = demand scope.program at 3 left (ToVariable scope.number array) }
-  label_rule scope pc (Receive at channel target) =
+  label_rule scope pc (Placed at (Receive channel target)) =
       let q : Join = pc ++ one (label_of scope.program (ToChannel channel)) in
       record { exits = λ exit. q; demands = demand scope.program at 4 pc (ToChannel channel) ++ target_demand scope at 4 q target }
-  label_rule scope pc (Send at channel e) = value_to scope pc at 5 e (ToChannel channel)
-  label_rule scope pc (Call at procedure arguments target) =
+  label_rule scope pc (Placed at (Send channel e)) = value_to scope pc at 5 e (ToChannel channel)
+  label_rule scope pc (Placed at (Call procedure arguments target)) =
       let q : Join = pc ++ flat_map (raise_label scope) arguments in
       let x : ExitLabels = call_exit_labels scope.program procedure q in
       let given : Join = x Normal ++ one (label_of scope.program (ToValue procedure)) in
       let asked : List Demand = demand scope.program at 6 q (ToBegin procedure) ++ argument_demands scope at q procedure 0 arguments
       ++ target_demand scope at 6 given target in
       record { exits = x; demands = asked }
-  label_rule scope pc (If at e then_block else_block) =
+  label_rule scope pc (Placed at (If e then_block else_block)) =
       let q : Join = pc ++ raise_label scope e in
       let branch : Join = q ++ value_label scope e in
       raising e q &&& whole_block scope branch then_block (block_label_rule scope branch then_block)
       &&& whole_block scope branch else_block (block_label_rule scope branch else_block)
-  label_rule scope pc (While at loop e body) =
+  label_rule scope pc (Placed at (While loop e body)) =
       let to_loop : Join → List Demand = λ left. demand scope.program at 8 left (ToLoop scope.number loop) in
       let q : Join = one (label_of scope.program (ToLoop scope.number loop)) ++ raise_label scope e in
       let b : Join = q ++ value_label scope e in
@@ -81,13 +81,13 @@ abbrev mutual
         exits = λ exit. if leaves_loop exit then inner.exits exit else list_if (same_exit Normal exit) (b ++ inner.exits Break);
         demands = to_loop pc ++ inner.demands ++ to_loop (inner.exits Normal ++ inner.exits Continue);
       }
-  label_rule scope pc (Leave at taken) = record { exits = λ exit. pc; demands = [] }
-  label_rule scope pc (ReturnWith at (Some e)) = value_to scope pc at 10 e (ToValue scope.number)
-  label_rule scope pc (ReturnWith at None) = record { exits = λ exit. pc; demands = [] }
-  label_rule scope pc (Try at block handlers) =
+  label_rule scope pc (Placed at (Leave taken)) = record { exits = λ exit. pc; demands = [] }
+  label_rule scope pc (Placed at (ReturnWith (Some e))) = value_to scope pc at 10 e (ToValue scope.number)
+  label_rule scope pc (Placed at (ReturnWith None)) = record { exits = λ exit. pc; demands = [] }
+  label_rule scope pc (Placed at (Try block handlers)) =
       let inner : LabelRule = whole_block scope pc block (block_label_rule scope pc block) in
       only_labels (passes handlers) inner &&& handlers_label_rule scope inner.exits handlers
-  label_rule scope pc (Nested at block) = whole_block scope pc block (block_label_rule scope pc block)
+  label_rule scope pc (Placed at (Nested block)) = whole_block scope pc block (block_label_rule scope pc block)
 
   pub block_label_rule : Scope → (pc : Join) → Block → LabelRule
   block_label_rule scope pc Empty = record { exits = λ exit. list_if (same_exit Normal exit) pc; demands = [] }

@@ -23,7 +23,7 @@ use Rattle.resolved.specs.declared.statement.Exit.{Exit}
 use Rattle.resolved.specs.declared.statement.Exit.TheVariants.{Normal, Return, Break, Continue, Throw}
 use Rattle.resolved.specs.declared.target.Target.{Target}
 use Rattle.resolved.specs.declared.target.Target.TheVariants.{ToVariable, ToChannel, ToBegin, ToParameter, ToValue, ToEnd, ToThrown, ToLoop}
-use Rattle.resolved.specs.Tree.{Expression, Integer, Logical, Read, Element, Unary, Binary, Short, Statement, Assign, Clear, Store, Receive, Send, Call, If, While, Leave, ReturnWith, Try, Nested, Block, Empty, Then, Handlers, NoMore, Catch}
+use Rattle.resolved.specs.Tree.{Expression, Integer, Logical, Read, Element, Unary, Binary, Short, Statement, Placed, Assign, Clear, Store, Receive, Send, Call, If, While, Leave, ReturnWith, Try, Nested, Block, Empty, Then, Handlers, NoMore, Catch}
 use Rattle.resolved.specs.Program.{Program, ProcedureEntry, ResultEntry, ThrownEntry, channel_at, global_at, slot_at, procedure_at}
 use Rattle.resolved.specs.Exits.{same_exit, has_exit, one_exit, taken_by, index_can_raise, divisor_can_raise, is_division, list_if, raises, declared_by, fault_unless}
 
@@ -157,20 +157,20 @@ own_value scope reached pc at rule exit e target =
 -- before it took; the handler is reached at the label of its exception
 abbrev mutual
   pub rule_of : Scope → (in_loop reached : Bool) → (pc : Join) → Statement → Judgement
-  rule_of scope in_loop reached pc (Assign at x e) = own_value scope reached pc at 1 Normal e (ToVariable scope.number x)
-  rule_of scope in_loop reached pc (Clear at slot) =
+  rule_of scope in_loop reached pc (Placed at (Assign x e)) = own_value scope reached pc at 1 Normal e (ToVariable scope.number x)
+  rule_of scope in_loop reached pc (Placed at (Clear slot)) =
       own reached at [] (Normal ∷ []) pc (demand scope.program at 2 pc (ToVariable scope.number (Local slot)))
-  rule_of scope in_loop reached pc (Store at array length index e) =
+  rule_of scope in_loop reached pc (Placed at (Store array length index e)) =
       let out_of_range : Join = list_if (index_can_raise index length) (value_label scope index) in
       let q : Join = pc ++ raise_label scope index ++ raise_label scope e ++ out_of_range in
       let left : Join = q ++ value_label scope index ++ value_label scope e in
       let exceptions : List ℕ = raises index ++ raises e ++ list_if (index_can_raise index length) (BOUNDS ∷ []) in
       own reached at (index ∷ e ∷ []) (Normal ∷ map Throw exceptions) q (demand scope.program at 3 left (ToVariable scope.number array))
-  rule_of scope in_loop reached pc (Receive at channel target) =
+  rule_of scope in_loop reached pc (Placed at (Receive channel target)) =
       let q : Join = pc ++ label_of scope.program (ToChannel channel) ∷ [] in
       own reached at [] (Normal ∷ Throw END ∷ []) q (demand scope.program at 4 pc (ToChannel channel) ++ target_demand scope at 4 q target)
-  rule_of scope in_loop reached pc (Send at channel e) = own_value scope reached pc at 5 Normal e (ToChannel channel)
-  rule_of scope in_loop reached pc (Call at procedure arguments target) =
+  rule_of scope in_loop reached pc (Placed at (Send channel e)) = own_value scope reached pc at 5 Normal e (ToChannel channel)
+  rule_of scope in_loop reached pc (Placed at (Call procedure arguments target)) =
       let q : Join = pc ++ flat_map (raise_label scope) arguments in
       let x : ExitLabels = call_exit_labels scope.program procedure q in
       let given : ℕ × Expression → List Demand = λ (i, e). demand scope.program at 6 (q ++ value_label scope e) (ToParameter procedure i) in
@@ -178,12 +178,12 @@ abbrev mutual
       ++ target_demand scope at 6 (x Normal ++ label_of scope.program (ToValue procedure) ∷ []) target in
       let exceptions : List ℕ = flat_map raises arguments ++ declared_by (procedure_at scope.program procedure).throws in
       record (own reached at arguments (Normal ∷ map Throw exceptions) q asked) { labels = x }
-  rule_of scope in_loop reached pc (If at e then_block else_block) =
+  rule_of scope in_loop reached pc (Placed at (If e then_block else_block)) =
       let q : Join = pc ++ raise_label scope e in
       let branch : Join = q ++ value_label scope e in
       own reached at (e ∷ []) (map Throw (raises e)) q [] & whole branch (rule_of_block scope in_loop true branch then_block)
       & whole branch (rule_of_block scope in_loop true branch else_block)
-  rule_of scope in_loop reached pc (While at loop e body) =
+  rule_of scope in_loop reached pc (Placed at (While loop e body)) =
       let to_loop : Join → List Demand = λ left. demand scope.program at 8 left (ToLoop scope.number loop) in
       let q : Join = label_of scope.program (ToLoop scope.number loop) ∷ raise_label scope e in
       let b : Join = q ++ value_label scope e in
@@ -191,15 +191,15 @@ abbrev mutual
       let back : List Demand = to_loop (inner.labels Normal ++ inner.labels Continue) in
       ending (Normal ∷ []) (b ++ inner.labels Break) & own reached at (e ∷ []) (map Throw (raises e)) q (to_loop pc)
       & without (Normal ∷ Break ∷ Continue ∷ []) (record inner { demands = inner.demands ++ back })
-  rule_of scope in_loop reached pc (Leave at taken) =
+  rule_of scope in_loop reached pc (Placed at (Leave taken)) =
       let may_stand : Bool = not (has_exit (Break ∷ Continue ∷ []) taken) || in_loop in
       record (ending [] pc) { faults = fault_unless may_stand OutsideLoop at } & own reached at [] (taken ∷ []) pc []
-  rule_of scope in_loop reached pc (ReturnWith at (Some e)) = own_value scope reached pc at 10 Return e (ToValue scope.number)
-  rule_of scope in_loop reached pc (ReturnWith at None) = own reached at [] (Return ∷ []) pc []
-  rule_of scope in_loop reached pc (Try at block handlers) =
+  rule_of scope in_loop reached pc (Placed at (ReturnWith (Some e))) = own_value scope reached pc at 10 Return e (ToValue scope.number)
+  rule_of scope in_loop reached pc (Placed at (ReturnWith None)) = own reached at [] (Return ∷ []) pc []
+  rule_of scope in_loop reached pc (Placed at (Try block handlers)) =
       let inner : Judgement = whole pc (rule_of_block scope in_loop true pc block) in
       own reached at [] [] pc [] & without (taken_by handlers) inner & rule_of_handlers scope in_loop inner.exits inner.labels handlers
-  rule_of scope in_loop reached pc (Nested at block) = own reached at [] [] pc [] & whole pc (rule_of_block scope in_loop true pc block)
+  rule_of scope in_loop reached pc (Placed at (Nested block)) = own reached at [] [] pc [] & whole pc (rule_of_block scope in_loop true pc block)
 
   pub rule_of_block : Scope → (in_loop reached : Bool) → (pc : Join) → Block → Judgement
   rule_of_block scope in_loop reached pc Empty = ending (Normal ∷ []) pc

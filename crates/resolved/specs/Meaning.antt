@@ -14,7 +14,7 @@ use Rattle.resolved.specs.declared.statement.Exit.{Exit}
 use Rattle.resolved.specs.declared.statement.Exit.TheVariants.{Normal, Return, Break, Continue, Throw}
 use Rattle.common.specs.declared.direction.Direction.{Direction}
 use Rattle.common.specs.declared.direction.Direction.TheVariants.{Input, Output}
-use Rattle.resolved.specs.Tree.{Statement, Assign, Clear, Store, Receive, Send, Call, If, While, Leave, ReturnWith, Try, Nested, Block, Empty, Then, Handlers, NoMore, Catch}
+use Rattle.resolved.specs.Tree.{Statement, Placed, Assign, Clear, Store, Receive, Send, Call, If, While, Leave, ReturnWith, Try, Nested, Block, Empty, Then, Handlers, NoMore, Catch}
 use Rattle.resolved.specs.Program.{Program, GlobalEntry, SlotEntry, ProcedureEntry, channel_at, procedure_at}
 use Rattle.resolved.specs.WellFormed.{cell_count}
 use Rattle.common.specs.Values.{number_in, truth_in, zero_of, kind_of}
@@ -87,28 +87,26 @@ Calls = (procedure : ℕ) → List Value → SourceState → Outcome
 -- time the loop is reached
 abbrev mutual
   pub statement_meaning : Calls → (k : ℕ) → Statement → SourceState → Outcome
-  statement_meaning calls k (Assign at x e) s = evaluated (value_of s e) s (λ v. normally (with_cells s x (v ∷ [])))
-  statement_meaning calls k (Clear at slot) s = normally (with_cells s (Local slot) (map (λ v. zero_of (kind_of v)) (s.locals slot)))
-  statement_meaning calls k (Store at array length index e) s =
+  statement_meaning calls k (Placed at (Assign x e)) s = evaluated (value_of s e) s (λ v. normally (with_cells s x (v ∷ [])))
+  statement_meaning calls k (Placed at (Clear slot)) s = normally (with_cells s (Local slot) (map (λ v. zero_of (kind_of v)) (s.locals slot)))
+  statement_meaning calls k (Placed at (Store array length index e)) s =
       evaluated (value_of s index) s (λ v.
       evaluated (value_of s e) s (λ w.
       evaluated (checked_index v length) s (λ i.
       normally (with_cells s array (slice_set (cells s array) i w)))))
-  statement_meaning calls k (Receive at channel target) s = received (s.inputs channel) channel target s
-  statement_meaning calls k (Send at channel e) s =
-      evaluated (value_of s e) s (λ v.
-      normally (record s { sent = s.sent ++ (record { channel = channel; number = number_in v } ∷ []) }))
-  statement_meaning calls k (Call at procedure arguments target) s =
+  statement_meaning calls k (Placed at (Receive channel target)) s = received (s.inputs channel) channel target s
+  statement_meaning calls k (Placed at (Send channel e)) s =
+      evaluated (value_of s e) s (λ v. normally (record s { sent = s.sent ++ (record { channel = channel; number = number_in v } ∷ []) }))
+  statement_meaning calls k (Placed at (Call procedure arguments target)) s =
       evaluated (values_of s arguments) s (λ vs. onward (Normal ∷ []) (calls procedure vs s) (λ exit returned t. normally (given_to target returned t)))
-  statement_meaning calls k (If at e then_block else_block) s =
-      evaluated (value_of s e) s (λ v.
-      if truth_in v then block_meaning calls k then_block s else block_meaning calls k else_block s)
-  statement_meaning calls k (While at loop e body) s = fuel k (λ t. value_of t e) (block_meaning calls k body) s
-  statement_meaning calls k (Leave at exit) s = Ended exit None s
-  statement_meaning calls k (ReturnWith at None) s = Ended Return None s
-  statement_meaning calls k (ReturnWith at (Some e)) s = evaluated (value_of s e) s (λ v. Ended Return (Some v) s)
-  statement_meaning calls k (Try at block handlers) s = caught (block_meaning calls k block s) (handlers_meaning calls k handlers)
-  statement_meaning calls k (Nested at block) s = block_meaning calls k block s
+  statement_meaning calls k (Placed at (If e then_block else_block)) s =
+      evaluated (value_of s e) s (λ v. if truth_in v then block_meaning calls k then_block s else block_meaning calls k else_block s)
+  statement_meaning calls k (Placed at (While loop e body)) s = fuel k (λ t. value_of t e) (block_meaning calls k body) s
+  statement_meaning calls k (Placed at (Leave exit)) s = Ended exit None s
+  statement_meaning calls k (Placed at (ReturnWith None)) s = Ended Return None s
+  statement_meaning calls k (Placed at (ReturnWith (Some e))) s = evaluated (value_of s e) s (λ v. Ended Return (Some v) s)
+  statement_meaning calls k (Placed at (Try block handlers)) s = caught (block_meaning calls k block s) (handlers_meaning calls k handlers)
+  statement_meaning calls k (Placed at (Nested block)) s = block_meaning calls k block s
 
   pub block_meaning : Calls → (k : ℕ) → Block → SourceState → Outcome
   block_meaning calls k Empty s = normally s

@@ -14,7 +14,7 @@ use Rattle.common.specs.declared.operator.Sameness.TheVariants.{Same}
 use Rattle.resolved.specs.declared.expression.Variable.TheVariants.{Local}
 use Rattle.resolved.specs.declared.statement.Exit.TheVariants.{Throw}
 use Rattle.common.specs.declared.direction.Direction.TheVariants.{Output}
-use Rattle.resolved.specs.Tree.{Expression, Integer, Read, Binary, Short, Statement, Assign, Send, Call, If, Leave, ReturnWith, Try, Block, Empty, Then, NoMore, Catch}
+use Rattle.resolved.specs.Tree.{Expression, Integer, Read, Binary, Short, Statement, Placed, Assign, Send, Call, If, Leave, ReturnWith, Try, Block, Empty, Then, NoMore, Catch}
 use Rattle.common.specs.declared.exceptions.TheConstants.{ARITH}
 use Rattle.resolved.specs.Program.{Program, ProcedureEntry, SlotEntry}
 use Rattle.resolved.specs.WellFormed.{well_formed}
@@ -70,7 +70,7 @@ local n = Read (Local n)
 
 -- `send pub, 1;`
 abbrev pub send_one : Statement
-send_one = Send 0 0 (Integer 1)
+send_one = Placed 0 (Send 0 (Integer 1))
 
 -- `int{} y = 3; int{Alice:} x = 0; try { boolean{Alice:} b = 1 / y == x && x < 9; send pub, 1; } catch (Arith) { }`: the division
 -- raises, by y alone. The right side of `&&` raises nothing, so whether it is evaluated, which x decides, leaves no trace
@@ -78,14 +78,14 @@ abbrev pub short_circuit : Program
 short_circuit = program_with
     (procedure [] 0
     (int_slot [] ∷ int_slot secret ∷ record { base = Boolean; size = None; written = Some secret; at = 0; name = [] } ∷ [])
-    (Then (Assign 0 (Local 0) (Integer 3))
-    (Then (Assign 0 (Local 1) (Integer 0))
-    (Then (Try 0
-    (Then (Assign 0 (Local 2) (Short And
+    (Then (Placed 0 (Assign (Local 0) (Integer 3)))
+    (Then (Placed 0 (Assign (Local 1) (Integer 0)))
+    (Then (Placed 0 (Try
+    (Then (Placed 0 (Assign (Local 2) (Short And
     (Binary (Compare (Matched Same)) (Binary (Compute Divide) (Integer 1) (local 0)) (local 1))
-    (Binary (Compare (Ordered LessThan)) (local 1) (Integer 9))))
+    (Binary (Compare (Ordered LessThan)) (local 1) (Integer 9)))))
     (Then send_one Empty))
-    (Catch 0 ARITH Empty NoMore)) Empty))))
+    (Catch 0 ARITH Empty NoMore))) Empty))))
     nothing_else
 
 -- `void f(int{} n) : {Alice:} { }` and `int{} y = 3; try { f(1 / y); send pub, 1; } catch (Arith) { }`: the argument raises, and f
@@ -93,32 +93,32 @@ short_circuit = program_with
 abbrev pub raising_argument : Program
 raising_argument = program_with
     (procedure [] 0 (int_slot [] ∷ [])
-    (Then (Assign 0 (Local 0) (Integer 3))
-    (Then (Try 0
-    (Then (Call 0 1 (Binary (Compute Divide) (Integer 1) (local 0) ∷ []) None)
+    (Then (Placed 0 (Assign (Local 0) (Integer 3)))
+    (Then (Placed 0 (Try
+    (Then (Placed 0 (Call 1 (Binary (Compute Divide) (Integer 1) (local 0) ∷ []) None))
     (Then send_one Empty))
-    (Catch 0 ARITH Empty NoMore)) Empty)))
+    (Catch 0 ARITH Empty NoMore))) Empty)))
     (procedure secret 1 (int_slot [] ∷ []) Empty)
 
 -- `void g(int{Alice:} x) { if (x > 0) { return; } x = 1; }` and `g(5); send pub, 1;`: whether it returns or ends normally is secret,
 -- and its caller sees the same of both
 abbrev pub two_normal_exits : Program
 two_normal_exits = program_with
-    (procedure [] 0 [] (Then (Call 0 1 (Integer 5 ∷ []) None) (Then send_one Empty)))
+    (procedure [] 0 [] (Then (Placed 0 (Call 1 (Integer 5 ∷ []) None)) (Then send_one Empty)))
     (procedure [] 1 (int_slot secret ∷ [])
-    (Then (If 0 (Binary (Compare (Ordered GreaterThan)) (local 0) (Integer 0)) (Then (ReturnWith 0 None) Empty) Empty)
-    (Then (Assign 0 (Local 0) (Integer 1)) Empty)))
+    (Then (Placed 0 (If (Binary (Compare (Ordered GreaterThan)) (local 0) (Integer 0)) (Then (Placed 0 (ReturnWith None)) Empty) Empty))
+    (Then (Placed 0 (Assign (Local 0) (Integer 1))) Empty)))
 
 -- `int{} y = 3; int{Alice:} x = 0; try { y = 1 / y; if (x > 0) { throw Oops; } } catch (Arith) { send pub, 1; } catch (Oops) { }`: only
 -- the division raises Arith, and it is reached and raises by what is public, though the block throws Oops by a secret
 abbrev pub handler_of_one : Program
 handler_of_one = program_with
     (procedure [] 0 (int_slot [] ∷ int_slot secret ∷ [])
-    (Then (Assign 0 (Local 0) (Integer 3))
-    (Then (Assign 0 (Local 1) (Integer 0))
-    (Then (Try 0
-    (Then (Assign 0 (Local 0) (Binary (Compute Divide) (Integer 1) (local 0)))
-    (Then (If 0 (Binary (Compare (Ordered GreaterThan)) (local 1) (Integer 0)) (Then (Leave 0 (Throw oops)) Empty) Empty) Empty))
+    (Then (Placed 0 (Assign (Local 0) (Integer 3)))
+    (Then (Placed 0 (Assign (Local 1) (Integer 0)))
+    (Then (Placed 0 (Try
+    (Then (Placed 0 (Assign (Local 0) (Binary (Compute Divide) (Integer 1) (local 0))))
+    (Then (Placed 0 (If (Binary (Compare (Ordered GreaterThan)) (local 1) (Integer 0)) (Then (Placed 0 (Leave (Throw oops))) Empty) Empty)) Empty))
     (Catch 0 ARITH (Then send_one Empty)
-    (Catch 0 oops Empty NoMore))) Empty))))
+    (Catch 0 oops Empty NoMore)))) Empty))))
     nothing_else

@@ -2,20 +2,14 @@
 -- Source: our own; procedures with begin, end and exception labels as in JFlow (Myers 1999).
 use Rattle.std.specs.Prelude.{ℕ, List, [], Option, None, slice_index_or}
 use Rattle.principals.specs.ActsFor.{PrincipalHierarchy}
+use Rattle.labels.specs.Channel.{ChannelContents}
 use Rattle.labels.specs.Label.{Label}
 use Rattle.common.specs.declared.base_type.BaseType.{BaseType}
 use Rattle.common.specs.declared.base_type.BaseType.TheVariants.{Int}
 use Rattle.common.specs.declared.value.Value.{Value}
 use Rattle.common.specs.Values.{zero_of}
-use Rattle.common.specs.declared.direction.Direction.{Direction}
 use Rattle.common.specs.declared.direction.Direction.TheVariants.{Output}
 use Rattle.resolved.specs.Tree.{Block, Empty}
-
--- an input or an output
-pub record ChannelEntry : Type 0 where
-  pub direction : Direction
-  pub name : List ℕ
-  pub label : Label
 
 -- a global: its name, its base type, its length if it is an array, its label, and what its cells hold at first
 pub record GlobalEntry : Type 0 where
@@ -62,14 +56,14 @@ pub record ProcedureEntry : Type 0 where
 -- a program; the names of exceptions are those of the declared ones, from number 3 on
 pub record Program : Type 0 where
   pub hierarchy : PrincipalHierarchy
-  pub channels : List ChannelEntry
+  pub channels : List ChannelContents
   pub exceptions : List (List ℕ)
   pub globals : List GlobalEntry
   pub procedures : List ProcedureEntry
   pub main : ℕ
 
 -- what stands in a table under a number; one that is not there, as in no well-formed program, reads as an empty entry
-abbrev pub channel_at : Program → ℕ → ChannelEntry
+abbrev pub channel_at : Program → ℕ → ChannelContents
 channel_at program channel = slice_index_or program.channels channel (record { direction = Output; name = []; label = [] })
 
 abbrev pub global_at : Program → ℕ → GlobalEntry

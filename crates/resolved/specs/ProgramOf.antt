@@ -11,10 +11,11 @@ use Rattle.resolved.specs.declared.tables.Slot.{Slot}
 use Rattle.resolved.specs.declared.tables.ResultType.{ResultType}
 use Rattle.resolved.specs.declared.tables.Thrown.{Thrown}
 use Rattle.resolved.specs.declared.tables.Procedure.{Procedure}
-use Rattle.resolved.specs.Program.{Program, ChannelEntry, GlobalEntry, SlotEntry, ResultEntry, ThrownEntry, ProcedureEntry}
+use Rattle.labels.specs.Channel.{ChannelContents}
+use Rattle.resolved.specs.Program.{Program, GlobalEntry, SlotEntry, ResultEntry, ThrownEntry, ProcedureEntry}
 use Rattle.resolved.specs.TreeOf.{block_of}
 
-abbrev pub channel_entry : List Label → Channel → ChannelEntry
+abbrev pub channel_entry : List Label → Channel → ChannelContents
 channel_entry labels channel =
     record { direction = channel.direction; name = string_bytes channel.name; label = label_at labels channel.label }
 

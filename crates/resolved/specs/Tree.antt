@@ -22,26 +22,29 @@ pub data Expression : Type 0 where
 -- its number among the loops of its procedure, in the order of the text. Exceptions 0, 1 and 2 are `Arith`, `Bounds` and `End`.
 mutual
   pub data Statement : Type 0 where
+    Placed : (at : ℕ) → StatementForm → Statement
+
+  pub data StatementForm : Type 0 where
     -- `x = e;`, also as a declaration
-    Assign : (at : ℕ) → Variable → Expression → Statement
+    Assign : Variable → Expression → StatementForm
     -- the declaration of a local array
-    Clear : (at slot : ℕ) → Statement
+    Clear : (slot : ℕ) → StatementForm
     -- `a[i] = e;`
-    Store : (at : ℕ) (array : Variable) (length : ℕ) (index value : Expression) → Statement
+    Store : (array : Variable) (length : ℕ) (index value : Expression) → StatementForm
     -- `x = receive c;` or, without a target, `receive c;`
-    Receive : (at channel : ℕ) (target : Option Variable) → Statement
+    Receive : (channel : ℕ) (target : Option Variable) → StatementForm
     -- `send c, e;`
-    Send : (at channel : ℕ) → Expression → Statement
+    Send : (channel : ℕ) → Expression → StatementForm
     -- `x = f(..);` or, without a target, `f(..);`
-    Call : (at procedure : ℕ) (arguments : List Expression) (target : Option Variable) → Statement
-    If : (at : ℕ) → Expression → Block → Block → Statement
-    While : (at loop : ℕ) → Expression → Block → Statement
+    Call : (procedure : ℕ) (arguments : List Expression) (target : Option Variable) → StatementForm
+    If : Expression → Block → Block → StatementForm
+    While : (loop : ℕ) → Expression → Block → StatementForm
     -- `break;`, `continue;` or `throw E;`
-    Leave : (at : ℕ) → Exit → Statement
+    Leave : Exit → StatementForm
     -- `return e;` or `return;`
-    ReturnWith : (at : ℕ) → Option Expression → Statement
-    Try : (at : ℕ) → Block → Handlers → Statement
-    Nested : (at : ℕ) → Block → Statement
+    ReturnWith : Option Expression → StatementForm
+    Try : Block → Handlers → StatementForm
+    Nested : Block → StatementForm
 
   pub data Block : Type 0 where
     Empty : Block

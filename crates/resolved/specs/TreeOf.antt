@@ -5,7 +5,7 @@ use mathlib.Core.Former
 use Rattle.resolved.specs.declared.expression.Expression as E
 use Rattle.resolved.specs.declared.statement.Statement as S
 use Rattle.resolved.specs.declared.statement.Handler.{Handler}
-use Rattle.resolved.specs.Tree.{Expression, Integer, Logical, Read, Element, Unary, Binary, Short, Statement, Assign, Clear, Store, Receive, Send, Call, If, While, Leave, ReturnWith, Try, Nested, Block, Empty, Then, Handlers, NoMore, Catch}
+use Rattle.resolved.specs.Tree.{Expression, Integer, Logical, Read, Element, Unary, Binary, Short, Statement, Placed, Assign, Clear, Store, Receive, Send, Call, If, While, Leave, ReturnWith, Try, Nested, Block, Empty, Then, Handlers, NoMore, Catch}
 
 abbrev pub expression_of : E.Expression → Expression
 expression_of (E.Integer n) = Integer n
@@ -22,18 +22,18 @@ some_expression_of (Some e) = Some (expression_of e)
 
 abbrev mutual
   pub statement_of : S.Statement → Statement
-  statement_of (S.Assign at x e) = Assign at x (expression_of e)
-  statement_of (S.Clear at slot) = Clear at slot
-  statement_of (S.Store at array length index e) = Store at array length (expression_of index) (expression_of e)
-  statement_of (S.Receive at channel target) = Receive at channel target
-  statement_of (S.Send at channel e) = Send at channel (expression_of e)
-  statement_of (S.Call at procedure arguments target) = Call at procedure (map expression_of arguments.items) target
-  statement_of (S.If' at e shape then_block shape' else_block) = If at (expression_of e) (block_row then_block) (block_row else_block)
-  statement_of (S.While' at loop e shape body) = While at loop (expression_of e) (block_row body)
-  statement_of (S.Leave at exit) = Leave at exit
-  statement_of (S.Return at e) = ReturnWith at (some_expression_of e)
-  statement_of (S.Try' at shape block shape' handlers) = Try at (block_row block) (handlers_row handlers)
-  statement_of (S.Nested' at shape block) = Nested at (block_row block)
+  statement_of (S.Assign at x e) = Placed at (Assign x (expression_of e))
+  statement_of (S.Clear at slot) = Placed at (Clear slot)
+  statement_of (S.Store at array length index e) = Placed at (Store array length (expression_of index) (expression_of e))
+  statement_of (S.Receive at channel target) = Placed at (Receive channel target)
+  statement_of (S.Send at channel e) = Placed at (Send channel (expression_of e))
+  statement_of (S.Call at procedure arguments target) = Placed at (Call procedure (map expression_of arguments.items) target)
+  statement_of (S.If' at e shape then_block shape' else_block) = Placed at (If (expression_of e) (block_row then_block) (block_row else_block))
+  statement_of (S.While' at loop e shape body) = Placed at (While loop (expression_of e) (block_row body))
+  statement_of (S.Leave at exit) = Placed at (Leave exit)
+  statement_of (S.Return at e) = Placed at (ReturnWith (some_expression_of e))
+  statement_of (S.Try' at shape block shape' handlers) = Placed at (Try (block_row block) (handlers_row handlers))
+  statement_of (S.Nested' at shape block) = Placed at (Nested (block_row block))
 
   pub block_row : {n : Former.Count} → S.Row_of-Statement n → Block
   block_row S.end_of-Statement = Empty

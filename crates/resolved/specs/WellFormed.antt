@@ -23,8 +23,9 @@ use Rattle.common.specs.declared.direction.Direction.{Direction}
 use Rattle.common.specs.declared.direction.Direction.TheVariants.{Input, Output}
 use Rattle.resolved.specs.declared.statement.Exit.{Exit}
 use Rattle.resolved.specs.declared.statement.Exit.TheVariants.{Normal, Return, Break, Continue, Throw}
-use Rattle.resolved.specs.Tree.{Expression, Integer, Logical, Read, Element, Unary, Binary, Short, Statement, Assign, Clear, Store, Receive, Send, Call, If, While, Leave, ReturnWith, Try, Nested, Block, Empty, Then, Handlers, NoMore, Catch}
-use Rattle.resolved.specs.Program.{Program, ProcedureEntry, SlotEntry, ResultEntry, ThrownEntry, ChannelEntry, GlobalEntry}
+use Rattle.resolved.specs.Tree.{Expression, Integer, Logical, Read, Element, Unary, Binary, Short, Statement, Placed, Assign, Clear, Store, Receive, Send, Call, If, While, Leave, ReturnWith, Try, Nested, Block, Empty, Then, Handlers, NoMore, Catch}
+use Rattle.labels.specs.Channel.{ChannelContents}
+use Rattle.resolved.specs.Program.{Program, ProcedureEntry, SlotEntry, ResultEntry, ThrownEntry, GlobalEntry}
 use Rattle.common.specs.Values.{kind_of}
 use Rattle.common.specs.Integers.{is_zero}
 
@@ -109,7 +110,7 @@ same_direction Input Output = false
 same_direction Output Input = false
 same_direction Output Output = true
 
-abbrev pub channel_is : Option ChannelEntry → Direction → Bool
+abbrev pub channel_is : Option ChannelContents → Direction → Bool
 channel_is None direction = false
 channel_is (Some entry) direction = same_direction entry.direction direction
 
@@ -152,29 +153,29 @@ is_array (Some type) = not (is_none type.size)
 -- that is returned where there is one to return, and only there (401)
 abbrev mutual
   pub statement_fits : Program → ProcedureEntry → Statement → Bool
-  statement_fits program procedure (Assign at x e) =
+  statement_fits program procedure (Placed at (Assign x e)) =
       scalar_by (variable_type program procedure x) (λ base. has_base program procedure base e)
-  statement_fits program procedure (Clear at slot) = is_array (variable_type program procedure (Local slot))
-  statement_fits program procedure (Store at array length index e) =
+  statement_fits program procedure (Placed at (Clear slot)) = is_array (variable_type program procedure (Local slot))
+  statement_fits program procedure (Placed at (Store array length index e)) =
       array_by (variable_type program procedure array) length (λ base. has_base program procedure base e)
       && has_base program procedure Int index
-  statement_fits program procedure (Receive at channel target) =
+  statement_fits program procedure (Placed at (Receive channel target)) =
       channel_is (slice_get program.channels channel) Input && target_by program procedure target (same_base Int)
-  statement_fits program procedure (Send at channel e) =
+  statement_fits program procedure (Placed at (Send channel e)) =
       channel_is (slice_get program.channels channel) Output && has_base program procedure Int e
-  statement_fits program procedure (Call at callee arguments target) =
+  statement_fits program procedure (Placed at (Call callee arguments target)) =
       call_matches program procedure (slice_get program.procedures callee) arguments target
-  statement_fits program procedure (If at e then_block else_block) =
+  statement_fits program procedure (Placed at (If e then_block else_block)) =
       has_base program procedure Boolean e && block_fits program procedure then_block && block_fits program procedure else_block
-  statement_fits program procedure (While at loop e body) =
+  statement_fits program procedure (Placed at (While loop e body)) =
       has_base program procedure Boolean e && block_fits program procedure body
-  statement_fits program procedure (Leave at exit) = may_leave_by program exit
-  statement_fits program procedure (ReturnWith at None) = is_none procedure.result
-  statement_fits program procedure (ReturnWith at (Some e)) =
+  statement_fits program procedure (Placed at (Leave exit)) = may_leave_by program exit
+  statement_fits program procedure (Placed at (ReturnWith None)) = is_none procedure.result
+  statement_fits program procedure (Placed at (ReturnWith (Some e))) =
       has_result procedure.result (λ base. has_base program procedure base e)
-  statement_fits program procedure (Try at block handlers) =
+  statement_fits program procedure (Placed at (Try block handlers)) =
       block_fits program procedure block && handlers_fit program procedure handlers
-  statement_fits program procedure (Nested at block) = block_fits program procedure block
+  statement_fits program procedure (Placed at (Nested block)) = block_fits program procedure block
 
   pub block_fits : Program → ProcedureEntry → Block → Bool
   block_fits program procedure Empty = true
@@ -190,18 +191,18 @@ abbrev mutual
 -- no refusal: the numbers of the loops, in the order of the text
 abbrev mutual
   pub statement_loops : Statement → List ℕ
-  statement_loops (Assign at x e) = []
-  statement_loops (Clear at slot) = []
-  statement_loops (Store at array length index e) = []
-  statement_loops (Receive at channel target) = []
-  statement_loops (Send at channel e) = []
-  statement_loops (Call at callee arguments target) = []
-  statement_loops (If at e then_block else_block) = block_loops then_block ++ block_loops else_block
-  statement_loops (While at loop e body) = loop ∷ block_loops body
-  statement_loops (Leave at exit) = []
-  statement_loops (ReturnWith at e) = []
-  statement_loops (Try at block handlers) = block_loops block ++ handlers_loops handlers
-  statement_loops (Nested at block) = block_loops block
+  statement_loops (Placed at (Assign x e)) = []
+  statement_loops (Placed at (Clear slot)) = []
+  statement_loops (Placed at (Store array length index e)) = []
+  statement_loops (Placed at (Receive channel target)) = []
+  statement_loops (Placed at (Send channel e)) = []
+  statement_loops (Placed at (Call callee arguments target)) = []
+  statement_loops (Placed at (If e then_block else_block)) = block_loops then_block ++ block_loops else_block
+  statement_loops (Placed at (While loop e body)) = loop ∷ block_loops body
+  statement_loops (Placed at (Leave exit)) = []
+  statement_loops (Placed at (ReturnWith e)) = []
+  statement_loops (Placed at (Try block handlers)) = block_loops block ++ handlers_loops handlers
+  statement_loops (Placed at (Nested block)) = block_loops block
 
   pub block_loops : Block → List ℕ
   block_loops Empty = []
@@ -290,18 +291,18 @@ some_nodes (Some e) = expression_nodes e
 
 abbrev mutual
   pub statement_nodes : Statement → ℕ
-  statement_nodes (Assign at x e) = 1 + expression_nodes e
-  statement_nodes (Clear at slot) = 1
-  statement_nodes (Store at array length index e) = 1 + expression_nodes index + expression_nodes e
-  statement_nodes (Receive at channel target) = 1
-  statement_nodes (Send at channel e) = 1 + expression_nodes e
-  statement_nodes (Call at callee arguments target) = 1 + sum_by expression_nodes arguments
-  statement_nodes (If at e then_block else_block) = 1 + expression_nodes e + block_nodes then_block + block_nodes else_block
-  statement_nodes (While at loop e body) = 1 + expression_nodes e + block_nodes body
-  statement_nodes (Leave at exit) = 1
-  statement_nodes (ReturnWith at e) = 1 + some_nodes e
-  statement_nodes (Try at block handlers) = 1 + block_nodes block + handlers_nodes handlers
-  statement_nodes (Nested at block) = 1 + block_nodes block
+  statement_nodes (Placed at (Assign x e)) = 1 + expression_nodes e
+  statement_nodes (Placed at (Clear slot)) = 1
+  statement_nodes (Placed at (Store array length index e)) = 1 + expression_nodes index + expression_nodes e
+  statement_nodes (Placed at (Receive channel target)) = 1
+  statement_nodes (Placed at (Send channel e)) = 1 + expression_nodes e
+  statement_nodes (Placed at (Call callee arguments target)) = 1 + sum_by expression_nodes arguments
+  statement_nodes (Placed at (If e then_block else_block)) = 1 + expression_nodes e + block_nodes then_block + block_nodes else_block
+  statement_nodes (Placed at (While loop e body)) = 1 + expression_nodes e + block_nodes body
+  statement_nodes (Placed at (Leave exit)) = 1
+  statement_nodes (Placed at (ReturnWith e)) = 1 + some_nodes e
+  statement_nodes (Placed at (Try block handlers)) = 1 + block_nodes block + handlers_nodes handlers
+  statement_nodes (Placed at (Nested block)) = 1 + block_nodes block
 
   pub block_nodes : Block → ℕ
   block_nodes Empty = 0
@@ -349,9 +350,9 @@ globals_fit program =
 abbrev pub well_formed : Program → Bool
 well_formed program =
     nat_le (length program.hierarchy.names) MAX_PRINCIPALS
-    && list_all (λ (entry : ChannelEntry). label_fits program.hierarchy entry.label) program.channels
+    && list_all (λ (entry : ChannelContents). label_fits program.hierarchy entry.label) program.channels
     && globals_fit program
     && list_all (procedure_fits program) program.procedures
     && main_fits (slice_get program.procedures program.main)
     && nat_le (program_nodes program) node_limit
-    && list_all (λ (entry : ChannelEntry). nat_le (label_nodes entry.label) node_limit) program.channels
+    && list_all (λ (entry : ChannelContents). nat_le (label_nodes entry.label) node_limit) program.channels

@@ -11,7 +11,8 @@ use Rattle.labels.proofs.Written.{IsCanonicalPolicy-written, IsCanonicalLabel-wr
 use Rattle.syntax.specs.Tree.{NameTree, ComponentTree, PolicyComponent, VariableComponent, LabelTree, ItemTree, ChannelItem, ExceptionItem, GlobalItem, ProcedureItem, ProgramTree}
 use Rattle.resolved.specs.declared.expression.Variable.{Variable}
 use Rattle.resolved.specs.declared.expression.Variable.TheVariants.{Global, Local}
-use Rattle.resolved.specs.Program.{Program, ChannelEntry, GlobalEntry, SlotEntry}
+use Rattle.labels.specs.Channel.{ChannelContents}
+use Rattle.resolved.specs.Program.{Program, GlobalEntry, SlotEntry}
 use Rattle.types.specs.Environment.{use_as, variable_of}
 use Rattle.types.specs.declared.fault.TypeRefusalKind.TheVariants as refusals
 use Rattle.common.specs.Results.{along, ◌>>=◌}
@@ -21,7 +22,7 @@ use Rattle.types.proofs.NextItems.{next_channel, next_global}
 use Rattle.types.specs.Resolution.{TopLevel, heads, channel_finding, first_finding, global_finding, procedure_entry_finding, next_item, main_finding, resolution, empty_program, next_name, built_in, next_frame, next_global_cells}
 use Rattle.types.proofs.Passing.{then_finds, found_finds, any_finds}
 
-abbrev IsCanonicalChannel : ChannelEntry → Type 0
+abbrev IsCanonicalChannel : ChannelContents → Type 0
 IsCanonicalChannel entry = IsCanonicalLabel entry.label
 
 abbrev IsCanonicalGlobal : GlobalEntry → Type 0

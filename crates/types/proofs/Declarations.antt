@@ -9,7 +9,7 @@ use Rattle.resolved.specs.declared.expression.Variable.TheVariants.{Local}
 use Rattle.resolved.specs.declared.tables.Slot.{Slot}
 use Rattle.resolved.specs.Program.{SlotEntry}
 use Rattle.resolved.specs.ProgramOf.{slot_entry}
-use Rattle.resolved.specs.Tree.{Statement, Clear}
+use Rattle.resolved.specs.Tree.{Statement, Placed, Clear}
 use Rattle.common.specs.Answers.{IfRefused}
 use Rattle.common.specs.declared.fault.OrNoMemory.{OrNoMemory}
 use Rattle.common.specs.declared.refusal.RefusalAt.{RefusalAt}
@@ -59,14 +59,14 @@ module _ (setting : Setting) (point : Point) (at : ℕ) (base : BaseType) (label
   -- an array
   pub array_declared : (after : Point) (slot : SlotEntry) (size : SizeTree) (cells : ℕ) → size_finding size ≡ Ok cells → slot ≡ slot_of at base written name.text (Some cells)
       → give (with_local point slot) ≡ give after
-      → declare_array_finding setting point at base label name size ≡ Ok (after, Clear at number)
+      → declare_array_finding setting point at base label name size ≡ Ok (after, Placed at (Clear number))
   unfolding statement_finding
   array_declared after slot size cells sized entry declared =
       then_ok _ _ _ (declared_there (Some size.1)) ∙ then_ok _ _ cells sized
-      ∙ ap (λ m. Ok (with_local point (slot_of at base written name.text (Some size.1)), Clear at m)) (sym next)
-      ∙ ap (λ count. Ok (with_local point (slot_of at base written name.text (Some count)), Clear at number)) (sym (sized_is size cells sized))
-      ∙ ap (λ one. Ok (with_local point one, Clear at number)) (sym entry)
-      ∙ ap (λ one. Ok (one, Clear at number)) (ok_inside _ _ declared)
+      ∙ ap (λ m. Ok (with_local point (slot_of at base written name.text (Some size.1)), Placed at (Clear m))) (sym next)
+      ∙ ap (λ count. Ok (with_local point (slot_of at base written name.text (Some count)), Placed at (Clear number))) (sym (sized_is size cells sized))
+      ∙ ap (λ one. Ok (with_local point one, Placed at (Clear number))) (sym entry)
+      ∙ ap (λ one. Ok (one, Placed at (Clear number))) (ok_inside _ _ declared)
 
   -- a scalar with its first value
   pub scalar_declared : (after : Point) (slot : SlotEntry) (value : RightTree) (statement : Statement) → assigned_finding setting.signatures point.names at (Local number) base value ≡ Ok statement

@@ -3,7 +3,7 @@ use Rattle.std.proofs.Common.{◌≡◌, ℕ, ◌+◌, ◌≤◌, ◌∙◌, Ok,
 use Rattle.syntax.specs.Nodes.{expression_nodes, block_nodes, statement_nodes}
 use Rattle.syntax.specs.Tree.{ExpressionTree, IfTree, WhileTree, TryTree, NestedTree, BlockTree, BlockOf, StatementTrees, CatchTrees, if_tree}
 use Rattle.common.specs.declared.base_type.BaseType.TheVariants.{Boolean}
-use Rattle.resolved.specs.Tree.{Expression, If, While, Try, Nested, Block, Empty, Handlers}
+use Rattle.resolved.specs.Tree.{Expression, Placed, If, While, Try, Nested, Block, Empty, Handlers}
 use Rattle.common.specs.Answers.{IfRefused}
 use Rattle.common.specs.declared.fault.OrNoMemory.{OrNoMemory}
 use Rattle.types.specs.Finding.{IsRefusalOf}
@@ -23,14 +23,14 @@ condition_wrong setting point at condition body otherwise fault wrong = fails_la
 module _ (setting : Setting) (point : Point) (at : ℕ) (condition : ExpressionTree) (e : Expression) (typed : typed_finding point.names Boolean condition ≡ Ok e) where
   -- with one block
   pub if_done : (body : BlockTree) (inside : Point) (block : Block) → block_finding setting point body ≡ Ok (inside, block)
-      → statement_finding setting point (if_tree at condition body None) ≡ Ok (inside, If at e block Empty)
+      → statement_finding setting point (if_tree at condition body None) ≡ Ok (inside, Placed at (If e block Empty))
   unfolding statement_finding block_finding statements_finding
   if_done body inside block done = then_ok _ _ e typed ∙ then_ok _ _ (inside, block) done
 
   -- with two
   pub if_else_done : (body otherwise : BlockTree) (inside after : Point) (block other : Block) → block_finding setting point body ≡ Ok (inside, block)
       → block_finding setting inside otherwise ≡ Ok (after, other)
-      → statement_finding setting point (IfTree at condition body otherwise) ≡ Ok (after, If at e block other)
+      → statement_finding setting point (IfTree at condition body otherwise) ≡ Ok (after, Placed at (If e block other))
   unfolding statement_finding
   if_else_done body otherwise inside after block other first second =
       then_ok _ _ e typed ∙ then_ok _ _ (inside, block) first ∙ then_ok _ _ (after, other) second
@@ -49,7 +49,7 @@ module _ (setting : Setting) (point : Point) (at : ℕ) (condition : ExpressionT
   -- ---- loops
 
   pub while_done : (body : BlockTree) (inside : Point) (block : Block) → block_finding setting (record point { loops = point.loops + 1 }) body ≡ Ok (inside, block)
-      → statement_finding setting point (WhileTree at condition body) ≡ Ok (inside, While at point.loops e block)
+      → statement_finding setting point (WhileTree at condition body) ≡ Ok (inside, Placed at (While point.loops e block))
   unfolding statement_finding
   while_done body inside block done = then_ok _ _ e typed ∙ then_ok _ _ (inside, block) done
 
@@ -63,7 +63,7 @@ module _ (setting : Setting) (point : Point) (at : ℕ) (condition : ExpressionT
 module _ (setting : Setting) (point : Point) (at : ℕ) where
   pub try_done : (body : BlockTree) (catches : CatchTrees) (inside after : Point) (block : Block) (handlers : Handlers) → block_finding setting point body ≡ Ok (inside, block)
       → catches_finding setting inside catches ≡ Ok (after, handlers)
-      → statement_finding setting point (TryTree at body catches) ≡ Ok (after, Try at block handlers)
+      → statement_finding setting point (TryTree at body catches) ≡ Ok (after, Placed at (Try block handlers))
   unfolding statement_finding
   try_done body catches inside after block handlers first second = then_ok _ _ (inside, block) first ∙ then_ok _ _ (after, handlers) second
 
@@ -78,7 +78,7 @@ module _ (setting : Setting) (point : Point) (at : ℕ) where
   handlers_wrong body catches inside block fault first wrong = fails_second _ _ (inside, block) fault first (fails_later _ _ fault wrong)
 
   pub nested_done : (statements : StatementTrees) (inside : Point) (block : Block) → block_finding setting point (BlockOf at statements) ≡ Ok (inside, block)
-      → statement_finding setting point (NestedTree (BlockOf at statements)) ≡ Ok (inside, Nested at block)
+      → statement_finding setting point (NestedTree (BlockOf at statements)) ≡ Ok (inside, Placed at (Nested block))
   unfolding statement_finding
   nested_done statements inside block done = then_ok _ _ (inside, block) done
 

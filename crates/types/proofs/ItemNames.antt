@@ -11,7 +11,8 @@ use Rattle.principals.specs.ActsFor.{PrincipalHierarchy, AllDifferent}
 use Rattle.common.specs.declared.limits.TheConstants.{MAX_TEXT}
 use Rattle.syntax.specs.Tree.{ChannelTree, GlobalTree, ProcedureTree, ItemTree, ChannelItem, ExceptionItem, GlobalItem, ProcedureItem, ProgramTree}
 use Rattle.syntax.specs.Written.{Anywhere, IsInteger, IsNameWithin, IsWrittenItem, IsWritten}
-use Rattle.resolved.specs.Program.{Program, ChannelEntry, GlobalEntry, ProcedureEntry}
+use Rattle.labels.specs.Channel.{ChannelContents}
+use Rattle.resolved.specs.Program.{Program, GlobalEntry, ProcedureEntry}
 use Rattle.types.specs.declared.scope.Meaning.{Meaning}
 use Rattle.types.specs.declared.scope.Meaning.TheVariants as meanings
 use Rattle.common.specs.Results.{along}
@@ -191,7 +192,7 @@ built_in_kept = record {
 
 -- ---- the tables
 
-abbrev pub channel_name : ChannelEntry → List ℕ
+abbrev pub channel_name : ChannelContents → List ℕ
 channel_name entry = entry.name
 
 abbrev pub global_name : GlobalEntry → List ℕ
@@ -206,7 +207,7 @@ pub record TableNames (named : ItemNames) (tables : Program) : Type 0 where
   pub globals : map global_name tables.globals ≡ named.globals
   pub procedures : map procedure_name tables.procedures ≡ named.procedures
 
-pub channel_named : (scope : LabelScope) (channel : ChannelTree) → IfOk (channel_finding scope channel) (λ (entry : ChannelEntry). entry.name ≡ channel.name.text)
+pub channel_named : (scope : LabelScope) (channel : ChannelTree) → IfOk (channel_finding scope channel) (λ (entry : ChannelContents). entry.name ≡ channel.name.text)
 unfolding channel_finding
 channel_named scope channel = then_finds (label_finding scope channel.label) _ (λ one. Unit {0}) _ (any_finds (label_finding scope channel.label)) (λ one nothing. refl)
 
@@ -232,7 +233,7 @@ item_named : (h : PrincipalHierarchy) (top : TopLevel) (named : ItemNames) (tabl
 unfolding next_item
 item_named h top named tables (ChannelItem at way label called) kept =
     subst (λ found. IfOk found (TableNames (names_with named (ChannelItem at way label called)))) (sym (next_channel h top tables (record { at = at; direction = way; label = label; name = called })))
-    (then_finds (channel_finding (heads h top tables.globals) (record { at = at; direction = way; label = label; name = called })) _ (λ (entry : ChannelEntry). entry.name ≡ called.text) _ (channel_named (heads h top tables.globals) (record { at = at; direction = way; label = label; name = called })) (λ entry same. record {
+    (then_finds (channel_finding (heads h top tables.globals) (record { at = at; direction = way; label = label; name = called })) _ (λ (entry : ChannelContents). entry.name ≡ called.text) _ (channel_named (heads h top tables.globals) (record { at = at; direction = way; label = label; name = called })) (λ entry same. record {
       exceptions = kept.exceptions;
       channels = map_push channel_name tables.channels entry ∙ (λ i. kept.channels i ++ same i ∷ []);
       globals = kept.globals;

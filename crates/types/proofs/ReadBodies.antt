@@ -9,8 +9,9 @@ use Rattle.common.specs.declared.base_type.BaseType.{BaseType}
 use Rattle.resolved.specs.declared.expression.Variable.{Variable}
 use Rattle.common.specs.declared.base_type.BaseType.TheVariants.{Int, Boolean}
 use Rattle.resolved.specs.declared.expression.Variable.TheVariants.{Global, Local}
-use Rattle.resolved.specs.Program.{Program, ChannelEntry, GlobalEntry, SlotEntry, ThrownEntry, ProcedureEntry}
-use Rattle.resolved.specs.Tree.{Statement, Clear, ReturnWith, Block, Handlers}
+use Rattle.labels.specs.Channel.{ChannelContents}
+use Rattle.resolved.specs.Program.{Program, GlobalEntry, SlotEntry, ThrownEntry, ProcedureEntry}
+use Rattle.resolved.specs.Tree.{Statement, Placed, Clear, ReturnWith, Block, Handlers}
 use Rattle.types.specs.declared.scope.Meaning.{Meaning}
 use Rattle.common.specs.declared.direction.Direction.TheVariants as directions
 use Rattle.types.specs.declared.scope.ItemKind.TheVariants.{Channel, Exception, Procedure}
@@ -99,11 +100,11 @@ module _ (program : Program) where
       → IfOk (statement_finding setting point (ReturnTree at value)) (StatementRead scope (ReturnTree at value))
   unfolding statement_finding
   return_reads setting scope point at None matches =
-      if_finds (is_none setting.result) (point, ReturnWith at None) _ at _ (λ none. record { after = scope; reads = ReadReturn; matches = matches })
+      if_finds (is_none setting.result) (point, Placed at (ReturnWith None)) _ at _ (λ none. record { after = scope; reads = ReadReturn; matches = matches })
   return_reads setting scope point at (Some value) matches =
       then_finds (expression_finding point.names value) _ (λ (found : Typed). ReadsExpression program scope value found.0) _
       (expression_reads program scope point.names matches.agrees value) (λ found reads.
-      if_finds (gives_base found.1 setting.result) (point, ReturnWith at (Some found.0)) _ (expression_at value) _
+      if_finds (gives_base found.1 setting.result) (point, Placed at (ReturnWith (Some found.0))) _ (expression_at value) _
       (λ is. record { after = scope; reads = ReadReturnValue reads; matches = matches }))
 
   -- ---- declarations
@@ -143,7 +144,7 @@ module _ (program : Program) where
       then_finds (size_finding size) _ (λ one. Unit {0}) _ (any_finds (size_finding size)) (λ length_of nothing. record {
         after = with_declared scope name at;
         reads =
-            subst (λ n. ReadsStatement program scope (DeclareArrayTree at base label name size) (Clear at n) (with_declared scope name at))
+            subst (λ n. ReadsStatement program scope (DeclareArrayTree at base label name size) (Placed at (Clear n)) (with_declared scope name at))
             (sym (next_number scope point matches)) ReadDeclareArray;
         matches = matches_next;
       }))
@@ -351,7 +352,7 @@ module _ (program : Program) where
     unfolding next_item
     step before (ChannelItem at way label called) items =
         subst (λ found. IfOk found (Step before (ChannelItem at way label called) items)) (sym (next_channel h top before (record { at = at; direction = way; label = label; name = called })))
-        (then_finds (channel_finding (heads h top before.globals) (record { at = at; direction = way; label = label; name = called })) _ (λ (entry : ChannelEntry). entry.name ≡ called.text) _ (channel_named (heads h top before.globals) (record { at = at; direction = way; label = label; name = called }))
+        (then_finds (channel_finding (heads h top before.globals) (record { at = at; direction = way; label = label; name = called })) _ (λ (entry : ChannelContents). entry.name ≡ called.text) _ (channel_named (heads h top before.globals) (record { at = at; direction = way; label = label; name = called }))
         (λ entry named tables rest. record {
           channels = called.text ∷ rest.channels;
           exceptions = rest.exceptions;

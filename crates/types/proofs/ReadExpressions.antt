@@ -13,7 +13,7 @@ use Rattle.resolved.specs.declared.expression.Variable.{Variable}
 use Rattle.resolved.specs.declared.expression.Variable.TheVariants.{Global, Local}
 use Rattle.common.specs.declared.operator.Operator.TheVariants.{Compute, Compare, Match}
 use Rattle.resolved.specs.Program.{Program}
-use Rattle.resolved.specs.Tree.{Expression, Call}
+use Rattle.resolved.specs.Tree.{Expression, Placed, Call}
 use Rattle.resolved.specs.WellFormed.{same_base, prefix_base}
 use Rattle.types.specs.declared.scope.Meaning.{Meaning}
 use Rattle.common.specs.declared.direction.Direction.TheVariants as directions
@@ -188,6 +188,6 @@ module _ (program : Program) where
         then_finds (call_finding signatures names call) _
         (λ (made : CallUse). IsProcedure program scope call.0 made.0 × ReadsArguments program scope call.1 made.1) _
         (call_reads signatures call) (λ made parts.
-        if_finds (gives_base base made.2) (Call at made.0 made.1 (Some x)) _ call.0.at _ (λ given. ReadCalled parts.0 parts.1))
+        if_finds (gives_base base made.2) (Placed at (Call made.0 made.1 (Some x))) _ call.0.at _ (λ given. ReadCalled parts.0 parts.1))
     right_reads signatures at x base (ValueTree value) =
         then_finds (typed_finding names base value) _ (Reads value) _ (typed_reads base value) (λ e reads. ReadValue reads)

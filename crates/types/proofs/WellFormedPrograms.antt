@@ -20,7 +20,8 @@ use Rattle.common.specs.declared.base_type.BaseType.TheVariants.{Int, Boolean}
 use Rattle.common.specs.declared.value.Value.{Value}
 use Rattle.common.specs.declared.value.Value.TheVariants.{Int as Number, Bool as Truth}
 use Rattle.resolved.specs.declared.expression.Variable.TheVariants.{Global, Local}
-use Rattle.resolved.specs.Program.{SlotEntry, Program, ChannelEntry, GlobalEntry, ProcedureEntry}
+use Rattle.labels.specs.Channel.{ChannelContents}
+use Rattle.resolved.specs.Program.{SlotEntry, Program, GlobalEntry, ProcedureEntry}
 use Rattle.common.specs.Values.{kind_of as base_of_value, zero_of}
 use Rattle.resolved.specs.WellFormed.{same_base, VariableType, global_type, parameters_of, same_direction, channel_is, label_fits, is_zero_value, first_fits, main_fits, cell_count, node_limit, size_fits, label_nodes, procedure_nodes, program_nodes, procedure_fits, well_formed}
 use Rattle.resolved.proofs.WellFormedParts.{program_from_parts}
@@ -76,7 +77,7 @@ each_pushed P (y ∷ xs) x all one = (all.0, each_pushed P xs x all.1 one)
 abbrev signature_from : ProcedureEntry → Signature
 signature_from entry = record { parameters = map slot_base (parameters_of entry); result = given_base entry.result }
 
-abbrev way_of : ChannelEntry → Direction
+abbrev way_of : ChannelContents → Direction
 way_of entry = entry.direction
 
 abbrev variable_of : GlobalEntry → VariableType
@@ -249,7 +250,7 @@ head_label h top globals written known label =
     (label_there (heads h top globals) known.fit refl label) (label_of (heads h top globals) written known.known refl label))
 
 channel_there : (h : PrincipalHierarchy) (top : TopLevel) (globals : List GlobalEntry) (written : List ReaderPolicy) → KnownGlobals h written globals → (channel : ChannelTree)
-    → IfOk (channel_finding (heads h top globals) channel) (λ (entry : ChannelEntry). LabelThere h written channel.label entry.label × (entry.direction ≡ channel.direction))
+    → IfOk (channel_finding (heads h top globals) channel) (λ (entry : ChannelContents). LabelThere h written channel.label entry.label × (entry.direction ≡ channel.direction))
 unfolding channel_finding
 channel_there h top globals written known channel =
     then_finds (label_finding (heads h top globals) channel.label) _ (LabelThere h written channel.label) _ (head_label h top globals written known channel.label)
@@ -301,7 +302,7 @@ global_there h top globals written known global =
 
 -- ---- the tables
 
-abbrev channel_fits : PrincipalHierarchy → ChannelEntry → Bool
+abbrev channel_fits : PrincipalHierarchy → ChannelContents → Bool
 channel_fits h entry = label_fits h entry.label
 
 abbrev frame_fits : ProcedureEntry → Bool
@@ -312,20 +313,20 @@ abbrev ProcedureFits : PrincipalHierarchy → TopLevel → ProcedureEntry → Ty
 ProcedureFits h top entry = (world : World h top) → frame_fits entry ≡ true → procedure_fits world.program entry ≡ true
 
 -- labels of these policies, and no label with more nodes than they have
-abbrev ChannelOf : List ReaderPolicy → ChannelEntry → Type 0
+abbrev ChannelOf : List ReaderPolicy → ChannelContents → Type 0
 ChannelOf written entry = IsOf written entry.label
 
 abbrev GlobalOf : List ReaderPolicy → GlobalEntry → Type 0
 GlobalOf written entry = IsOf written entry.label
 
-labels_small : (limit : ℕ) (written : List ReaderPolicy) (channels : List ChannelEntry) → Each (ChannelOf written) channels → policies_weight written ≤ limit
-    → list_all (λ (entry : ChannelEntry). nat_le (label_nodes entry.label) limit) channels ≡ true
+labels_small : (limit : ℕ) (written : List ReaderPolicy) (channels : List ChannelContents) → Each (ChannelOf written) channels → policies_weight written ≤ limit
+    → list_all (λ (entry : ChannelContents). nat_le (label_nodes entry.label) limit) channels ≡ true
 labels_small limit written [] each few = refl
 labels_small limit written (entry ∷ channels) each few =
     and_from (nat_le (label_nodes entry.label) limit) _ (le-leb (label_nodes entry.label) limit (omega (arith, few, label_small written entry.label each.0)))
     (labels_small limit written channels each.1 few)
 
-channels_of_more : (written more : List ReaderPolicy) (channels : List ChannelEntry) → Each (ChannelOf written) channels → Each (ChannelOf (written ++ more)) channels
+channels_of_more : (written more : List ReaderPolicy) (channels : List ChannelContents) → Each (ChannelOf written) channels → Each (ChannelOf (written ++ more)) channels
 channels_of_more written more [] each = tt
 channels_of_more written more (entry ∷ channels) each = (is_of_more written more entry.label each.0, channels_of_more written more channels each.1)
 
@@ -384,7 +385,7 @@ module _ (placed : ℕ → Type 0) (word : List ℕ → Type 0) (h : PrincipalHi
   item_kept shape nodes tables (ChannelItem at way label called) is kept =
       subst (λ found. IfOk found (AreWellFormedTables h top (shape_with shape (ChannelItem at way label called)) (nodes + tree.item_nodes (ChannelItem at way label called)))) (sym (next_channel h top tables (record { at = at; direction = way; label = label; name = called })))
       (then_finds (channel_finding (heads h top tables.globals) (record { at = at; direction = way; label = label; name = called })) _
-      (λ (entry : ChannelEntry). LabelThere h kept.written label entry.label × (entry.direction ≡ way)) _
+      (λ (entry : ChannelContents). LabelThere h kept.written label entry.label × (entry.direction ≡ way)) _
       (channel_there h top tables.globals kept.written (known_globals h top shape nodes tables kept) (record { at = at; direction = way; label = label; name = called })) (λ entry there. record {
         directions = map_push way_of tables.channels entry ∙ (λ i. kept.directions i ++ there.1 i ∷ []);
         exceptions = kept.exceptions;
@@ -543,7 +544,7 @@ main_found found procedures = go (option_and_then (item_of Procedure) found)
 
 -- ---- what the names of the items mean in the program
 
-way_there : (found : Option ChannelEntry) (way : Direction) → option_map way_of found ≡ Some way → channel_is found way ≡ true
+way_there : (found : Option ChannelContents) (way : Direction) → option_map way_of found ≡ Some way → channel_is found way ≡ true
 way_there None way e = absurd (cc)
 way_there (Some entry) way e =
     let same : entry.direction ≡ way = cc in

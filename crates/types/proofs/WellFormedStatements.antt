@@ -20,7 +20,7 @@ use Rattle.resolved.specs.declared.expression.Variable.TheVariants.{Local}
 use Rattle.common.specs.declared.direction.Direction.TheVariants as directions
 use Rattle.resolved.specs.declared.statement.Exit.TheVariants as exits
 use Rattle.resolved.specs.Program.{Program, ProcedureEntry, SlotEntry, ResultEntry}
-use Rattle.resolved.specs.Tree.{Expression, Statement, Store, Receive, Send, Call, If, While, Leave, ReturnWith, Try, Nested, Block, Handlers, Catch, Clear}
+use Rattle.resolved.specs.Tree.{Expression, Statement, Placed, Store, Receive, Send, Call, If, While, Leave, ReturnWith, Try, Nested, Block, Handlers, Catch, Clear}
 use Rattle.resolved.specs.WellFormed.{same_base, slot_type, variable_type, scalar_by, array_by, has_base, has_result, target_by, channel_is, is_exception, is_array, arguments_match, call_matches, parameters_of, statement_fits, block_fits, handlers_fit, statement_loops, block_loops, handlers_loops, counts_from, size_fits, written_fits, expression_nodes, statement_nodes, block_nodes, handlers_nodes}
 use Rattle.resolved.proofs.Sound.Values.{same_base_is, same_base_itself}
 use Rattle.types.specs.declared.scope.ItemKind.TheVariants.{Channel, Exception, Procedure}
@@ -344,7 +344,7 @@ module _ (program : Program) (procedure : ProcedureEntry) (setting : Setting) wh
         }))
     assigned_keeps names at target base (CalledTree call) written =
         then_finds (call_finding setting.signatures names call) _ (IsWellFormedCall names (tree.call_nodes call)) _ (call_keeps names call written) (λ made kept.
-        if_finds (gives_base base made.2) (Call at made.0 made.1 (Some target)) _ call.0.at _ (λ given. record {
+        if_finds (gives_base base made.2) (Placed at (Call made.0 made.1 (Some target))) _ call.0.at _ (λ given. record {
           fits =
               λ means e. call_passes made (Some target) (kept.there means) (λ callee same.
               scalar_passes target base (λ base. has_result callee.result (same_base base)) e
@@ -403,7 +403,7 @@ module _ (program : Program) (procedure : ProcedureEntry) (setting : Setting) wh
         (typed_keeps program procedure setting.signatures placed word point.names Int index index_written) (λ i kept_i.
         then_finds (typed_finding point.names a.1 right) _ (HasBase point.names a.1 (tree.expression_nodes right)) _
         (typed_keeps program procedure setting.signatures placed word point.names a.1 right right_written) (λ e kept_e.
-        plain_keeps point (2 + (tree.expression_nodes index + tree.expression_nodes right)) (Store array.at a.0 a.2 i e) (record {
+        plain_keeps point (2 + (tree.expression_nodes index + tree.expression_nodes right)) (Placed array.at (Store a.0 a.2 i e)) (record {
           fits =
               λ means. and_from (array_by (variable_type program procedure a.0) a.2 (λ base. has_base program procedure base e)) (has_base program procedure Int i)
               (array_passes a.0 a.1 a.2 (λ base. has_base program procedure base e) (stands means) (kept_e.fits means)) (kept_i.fits means);
@@ -417,7 +417,7 @@ module _ (program : Program) (procedure : ProcedureEntry) (setting : Setting) wh
     call_statement_keeps point call written =
         then_finds (call_finding setting.signatures point.names call) _ (IsWellFormedCall point.names (tree.call_nodes call)) _
         (call_keeps point.names call written) (λ made kept.
-        plain_keeps point (1 + tree.call_nodes call) (Call call.0.at made.0 made.1 None) (record {
+        plain_keeps point (1 + tree.call_nodes call) (Placed call.0.at (Call made.0 made.1 None)) (record {
           fits = λ means. call_passes made None (kept.there means) (λ callee same. refl);
           no_loops = refl;
           few = omega (arith, kept.few);
@@ -430,7 +430,7 @@ module _ (program : Program) (procedure : ProcedureEntry) (setting : Setting) wh
         then_finds (use_as (item_of (Channel directions.Input)) (point.names channel.text) channel.at) _
         (λ number. MeansHere point.names → Stands program procedure setting.signatures (meanings.Item (Channel directions.Input) number)) _
         (item_found program procedure setting.signatures (Channel directions.Input) point.names channel) (λ number stands.
-        plain_keeps point 2 (Receive at number None) (record {
+        plain_keeps point 2 (Placed at (Receive number None)) (record {
           fits = λ means. and_from (channel_is (slice_get program.channels number) directions.Input) true (stands means) refl;
           no_loops = refl;
           few = omega arith;
@@ -445,7 +445,7 @@ module _ (program : Program) (procedure : ProcedureEntry) (setting : Setting) wh
         (item_found program procedure setting.signatures (Channel directions.Output) point.names channel) (λ number stands.
         then_finds (typed_finding point.names Int right) _ (HasBase point.names Int (tree.expression_nodes right)) _
         (typed_keeps program procedure setting.signatures placed word point.names Int right written) (λ e kept.
-        plain_keeps point (2 + tree.expression_nodes right) (Send at number e) (record {
+        plain_keeps point (2 + tree.expression_nodes right) (Placed at (Send number e)) (record {
           fits =
               λ means. and_from (channel_is (slice_get program.channels number) directions.Output) (has_base program procedure Int e)
               (stands means) (kept.fits means);
@@ -460,7 +460,7 @@ module _ (program : Program) (procedure : ProcedureEntry) (setting : Setting) wh
         then_finds (use_as (item_of Exception) (point.names exception.text) exception.at) _
         (λ number. MeansHere point.names → Stands program procedure setting.signatures (meanings.Item Exception number)) _
         (item_found program procedure setting.signatures Exception point.names exception) (λ number stands.
-        plain_keeps point 2 (Leave at (exits.Throw number)) (record { fits = stands; no_loops = refl; few = omega arith }))
+        plain_keeps point 2 (Placed at (Leave (exits.Throw number))) (record { fits = stands; no_loops = refl; few = omega arith }))
 
     module _ (value : given_base procedure.result ≡ setting.result) where
       no_value : (entry : Option ResultEntry) → is_none (given_base entry) ≡ true → is_none entry ≡ true
@@ -476,7 +476,7 @@ module _ (program : Program) (procedure : ProcedureEntry) (setting : Setting) wh
           → IfOk (statement_finding setting point (ReturnTree at right)) (IsWellFormedStatement point (1 + tree.optional_expression_nodes right))
       unfolding statement_finding
       return_keeps point at None written =
-          if_finds (is_none setting.result) (point, ReturnWith at None) _ at _ (λ none. plain_keeps point 1 (ReturnWith at None) (record {
+          if_finds (is_none setting.result) (point, Placed at (ReturnWith None)) _ at _ (λ none. plain_keeps point 1 (Placed at (ReturnWith None)) (record {
             fits = λ means. no_value procedure.result (subst (λ one. is_none one ≡ true) (sym value) none);
             no_loops = refl;
             few = omega arith;
@@ -484,8 +484,8 @@ module _ (program : Program) (procedure : ProcedureEntry) (setting : Setting) wh
       return_keeps point at (Some right) written =
           then_finds (expression_finding point.names right) _ (IsWellFormedExpression program procedure setting.signatures point.names (tree.expression_nodes right)) _
           (expression_keeps program procedure setting.signatures placed word point.names right written)
-          (λ found kept. if_finds (gives_base found.1 setting.result) (point, ReturnWith at (Some found.0)) _ (expression_at right) _ (λ given.
-          plain_keeps point (1 + tree.optional_expression_nodes (Some right)) (ReturnWith at (Some found.0)) (record {
+          (λ found kept. if_finds (gives_base found.1 setting.result) (point, Placed at (ReturnWith (Some found.0))) _ (expression_at right) _ (λ given.
+          plain_keeps point (1 + tree.optional_expression_nodes (Some right)) (Placed at (ReturnWith (Some found.0))) (record {
             fits = λ means. returns_value procedure.result found.1 found.0 (subst (λ one. gives_base found.1 one ≡ true) (sym value) given) (kept.fits means);
             no_loops = refl;
             few = omega (arith, kept.few);
@@ -551,7 +551,7 @@ module _ (program : Program) (procedure : ProcedureEntry) (setting : Setting) wh
           (if_finds (nat_lt 0 size.1 && nat_le size.1 MAX_ELEMENTS) size.1 _ size.0 _ (λ fit. fit)) (λ found fit.
           let slot = slot_of at base declared.written name.text (Some size.1) in
           let there = declared.there in
-          subst (λ next. IsWellFormedStatement point (3 + tree.optional_label_nodes label) (next, Clear at (length point.slots))) (sym declared.next_is) (record {
+          subst (λ next. IsWellFormedStatement point (3 + tree.optional_label_nodes label) (next, Placed at (Clear (length point.slots)))) (sym declared.next_is) (record {
             more = slot ∷ [];
             slots = refl;
             slots_fit =
@@ -569,13 +569,13 @@ module _ (program : Program) (procedure : ProcedureEntry) (setting : Setting) wh
 
       if_keeps : (point : Point) (at nodes others : ℕ) (e : Expression) (condition : ℕ) → HasBase point.names Boolean condition e
           → (done : Point × Block) → IsWellFormedBlock point nodes done → (other : Point × Block) → IsWellFormedBlock done.0 others other
-          → IsWellFormedStatement point (1 + (condition + (nodes + others))) (other.0, If at e done.1 other.1)
+          → IsWellFormedStatement point (1 + (condition + (nodes + others))) (other.0, Placed at (If e done.1 other.1))
       if_keeps point at nodes others e condition kept_e done kept other kept_other =
-          weigh (statement_nodes (If at e done.1 other.1)) (1 + (condition + (nodes + others))) (omega (arith, kept_e.few))
+          weigh (statement_nodes (Placed at (If e done.1 other.1))) (1 + (condition + (nodes + others))) (omega (arith, kept_e.few))
           (then_keeps (test_keeps (has_base program procedure Boolean e) kept_e.fits kept) kept_other)
 
       while_keeps : (point : Point) (at nodes : ℕ) (e : Expression) (condition : ℕ) → HasBase point.names Boolean condition e
-          → (done : Point × Block) → IsWellFormedBlock (record point { loops = point.loops + 1 }) nodes done → IsWellFormedStatement point (1 + (condition + nodes)) (done.0, While at point.loops e done.1)
+          → (done : Point × Block) → IsWellFormedBlock (record point { loops = point.loops + 1 }) nodes done → IsWellFormedStatement point (1 + (condition + nodes)) (done.0, Placed at (While point.loops e done.1))
       while_keeps point at nodes e condition kept_e done kept =
           let next : point.loops + 1 ≡ suc point.loops = omega arith in
           record {
@@ -594,13 +594,13 @@ module _ (program : Program) (procedure : ProcedureEntry) (setting : Setting) wh
           }
 
       try_keeps : (point : Point) (at nodes others : ℕ) (done : Point × Block) → IsWellFormedBlock point nodes done
-          → (handled : Point × Handlers) → AreWellFormedHandlers done.0 others handled → IsWellFormedStatement point (1 + (nodes + others)) (handled.0, Try at done.1 handled.1)
+          → (handled : Point × Handlers) → AreWellFormedHandlers done.0 others handled → IsWellFormedStatement point (1 + (nodes + others)) (handled.0, Placed at (Try done.1 handled.1))
       try_keeps point at nodes others done kept handled kept_handlers =
-          weigh (statement_nodes (Try at done.1 handled.1)) (1 + (nodes + others)) (omega arith) (then_keeps kept kept_handlers)
+          weigh (statement_nodes (Placed at (Try done.1 handled.1))) (1 + (nodes + others)) (omega arith) (then_keeps kept kept_handlers)
 
       nested_keeps : (point : Point) (at nodes : ℕ) (done : Point × Block) → IsWellFormedBlock point nodes done
-          → IsWellFormedStatement point (1 + nodes) (done.0, Nested at done.1)
-      nested_keeps point at nodes done kept = weigh (statement_nodes (Nested at done.1)) (1 + nodes) (omega arith) kept
+          → IsWellFormedStatement point (1 + nodes) (done.0, Placed at (Nested done.1))
+      nested_keeps point at nodes done kept = weigh (statement_nodes (Placed at (Nested done.1))) (1 + nodes) (omega arith) kept
 
       after_keeps : (point : Point) (nodes : ℕ) (done : Point × Block) → IsWellFormedBlock point nodes done
           → IsWellFormedBlock point (1 + nodes) (after_block point done.0, done.1)
@@ -646,8 +646,8 @@ module _ (program : Program) (procedure : ProcedureEntry) (setting : Setting) wh
             (typed_keeps program procedure setting.signatures placed word point.names Boolean condition is.1) (λ e kept_e.
             then_finds (block_finding setting (record point { loops = point.loops + 1 }) body) _ (IsWellFormedBlock (record point { loops = point.loops + 1 }) (tree.block_nodes body)) _ (block_keeps (record point { loops = point.loops + 1 }) body is.2)
             (λ done kept. while_keeps point at (tree.block_nodes body) e (tree.expression_nodes condition) kept_e done kept))
-        statement_keeps point (BreakTree at) is = plain_keeps point 1 (Leave at exits.Break) (record { fits = λ means. refl; no_loops = refl; few = omega arith })
-        statement_keeps point (ContinueTree at) is = plain_keeps point 1 (Leave at exits.Continue) (record { fits = λ means. refl; no_loops = refl; few = omega arith })
+        statement_keeps point (BreakTree at) is = plain_keeps point 1 (Placed at (Leave exits.Break)) (record { fits = λ means. refl; no_loops = refl; few = omega arith })
+        statement_keeps point (ContinueTree at) is = plain_keeps point 1 (Placed at (Leave exits.Continue)) (record { fits = λ means. refl; no_loops = refl; few = omega arith })
         statement_keeps point (ThrowTree at exception) is = throw_keeps point at exception
         statement_keeps point (ReturnTree at right) is = return_keeps point at right is.1
         statement_keeps point (TryTree at body catches) is =

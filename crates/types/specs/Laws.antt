@@ -7,7 +7,8 @@ use Rattle.labels.specs.Canonical.{IsCanonicalLabel}
 use Rattle.syntax.specs.Limits.{IsOfText}
 use Rattle.syntax.specs.Tree.{ItemTree, ProgramTree}
 use Rattle.syntax.specs.Written.{IsNameWithin}
-use Rattle.resolved.specs.Program.{Program, ChannelEntry, GlobalEntry, ProcedureEntry}
+use Rattle.labels.specs.Channel.{ChannelContents}
+use Rattle.resolved.specs.Program.{Program, GlobalEntry, ProcedureEntry}
 use Rattle.resolved.specs.WellFormed.{well_formed}
 use Rattle.resolved.specs.declared.expression.Variable.TheVariants.{Global, Local}
 use Rattle.types.specs.declared.scope.Meaning.{Meaning}
@@ -28,7 +29,7 @@ WhatIsFoundIsWellFormed =
 
 -- the names of declared exceptions, of channels, of globals and of procedures
 abbrev pub channel_names : Program → List (List ℕ)
-channel_names program = map (λ (entry : ChannelEntry). entry.name) program.channels
+channel_names program = map (λ (entry : ChannelContents). entry.name) program.channels
 
 abbrev pub global_names : Program → List (List ℕ)
 global_names program = map (λ (entry : GlobalEntry). entry.name) program.globals
@@ -74,7 +75,7 @@ HierarchyIsKept = (h : PrincipalHierarchy) (tree : ProgramTree) (program : Progr
 abbrev pub ChannelLabelsAreCanonical : Type 0
 ChannelLabelsAreCanonical =
     (h : PrincipalHierarchy) (tree : ProgramTree) (program : Program) → resolution h tree ≡ give program
-    → All (λ (entry : ChannelEntry). IsCanonicalLabel entry.label) program.channels
+    → All (λ (entry : ChannelContents). IsCanonicalLabel entry.label) program.channels
 
 -- ---- numbers
 

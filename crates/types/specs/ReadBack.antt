@@ -20,7 +20,7 @@ use Rattle.common.specs.declared.operator.Operator.TheVariants.{Compute, Compare
 use Rattle.resolved.specs.declared.statement.Exit.TheVariants as exits
 use Rattle.common.specs.Exceptions.{built_in_names}
 use Rattle.resolved.specs.Program.{Program, SlotEntry, ThrownEntry, ProcedureEntry}
-use Rattle.resolved.specs.Tree.{Expression, Integer, Logical, Read, Element, Unary, Binary, Short, Statement, Assign, Clear, Store, Receive, Send, Call, If, While, Leave, ReturnWith, Try, Nested, Block, Empty, Then, Handlers, NoMore, Catch}
+use Rattle.resolved.specs.Tree.{Expression, Integer, Logical, Read, Element, Unary, Binary, Short, Statement, Placed, Assign, Clear, Store, Receive, Send, Call, If, While, Leave, ReturnWith, Try, Nested, Block, Empty, Then, Handlers, NoMore, Catch}
 use Rattle.types.specs.Laws.{channel_names, global_names, procedure_names}
 use Rattle.types.specs.Finding.{give}
 use Rattle.types.specs.Resolution.{resolution}
@@ -122,11 +122,11 @@ pub data ReadsArguments (program : Program) (scope : NameScope) : List Expressio
 -- a right side, and the statement that begins at this byte and assigns it to a variable
 pub data ReadsRight (program : Program) (scope : NameScope) (at : ℕ) (x : Variable) : RightTree → Statement → Type 0 where
   ReadReceived : {receive_at n : ℕ} {channel : NameTree} → IsChannel program scope channel n
-      → ReadsRight program scope at x (ReceivedTree receive_at channel) (Receive at n (Some x))
+      → ReadsRight program scope at x (ReceivedTree receive_at channel) (Placed at (Receive n (Some x)))
   ReadCalled : {call : CallTree} {n : ℕ} {es : List Expression} → IsProcedure program scope call.0 n
-      → ReadsArguments program scope call.1 es → ReadsRight program scope at x (CalledTree call) (Call at n es (Some x))
+      → ReadsArguments program scope call.1 es → ReadsRight program scope at x (CalledTree call) (Placed at (Call n es (Some x)))
   ReadValue : {value : ExpressionTree} {e : Expression} → ReadsExpression program scope value e
-      → ReadsRight program scope at x (ValueTree value) (Assign at x e)
+      → ReadsRight program scope at x (ValueTree value) (Placed at (Assign x e))
 
 -- from the scope before it to the one after it: a written statement and the resolved one, and likewise blocks, what stands in
 -- them, and handlers. The right side of a declaration is read in the scope before it
@@ -136,42 +136,42 @@ mutual
         {s : Statement} → ReadsRight program scope at (Local (length scope.declared)) right s
         → ReadsStatement program scope (DeclareTree at base label name right) s (with_declared scope name at)
     ReadDeclareArray : {scope : NameScope} {at : ℕ} {base : BaseType} {label : Option LabelTree} {name : NameTree} {size : SizeTree}
-        → ReadsStatement program scope (DeclareArrayTree at base label name size) (Clear at (length scope.declared))
+        → ReadsStatement program scope (DeclareArrayTree at base label name size) (Placed at (Clear (length scope.declared)))
         (with_declared scope name at)
     ReadAssign : {scope : NameScope} {name : NameTree} {x : Variable} {right : RightTree} {s : Statement}
         → IsVariable program scope name x → ReadsRight program scope name.at x right s
         → ReadsStatement program scope (AssignTree name right) s scope
     ReadStore : {scope : NameScope} {array : NameTree} {a : Variable} {size : ℕ} {index value : ExpressionTree} {i e : Expression}
         → IsVariable program scope array a → ReadsExpression program scope index i → ReadsExpression program scope value e
-        → ReadsStatement program scope (AssignElementTree array index value) (Store array.at a size i e) scope
+        → ReadsStatement program scope (AssignElementTree array index value) (Placed array.at (Store a size i e)) scope
     ReadCall : {scope : NameScope} {call : CallTree} {n : ℕ} {es : List Expression} → IsProcedure program scope call.0 n
         → ReadsArguments program scope call.1 es
-        → ReadsStatement program scope (CallTree' call) (Call call.0.at n es None) scope
+        → ReadsStatement program scope (CallTree' call) (Placed call.0.at (Call n es None)) scope
     ReadReceive : {scope : NameScope} {at n : ℕ} {channel : NameTree} → IsChannel program scope channel n
-        → ReadsStatement program scope (ReceiveTree at channel) (Receive at n None) scope
+        → ReadsStatement program scope (ReceiveTree at channel) (Placed at (Receive n None)) scope
     ReadSend : {scope : NameScope} {at n : ℕ} {channel : NameTree} {value : ExpressionTree} {e : Expression}
         → IsChannel program scope channel n → ReadsExpression program scope value e
-        → ReadsStatement program scope (SendTree at channel value) (Send at n e) scope
+        → ReadsStatement program scope (SendTree at channel value) (Placed at (Send n e)) scope
     ReadIf : {scope between after : NameScope} {at : ℕ} {condition : ExpressionTree} {e : Expression} {body otherwise : BlockTree}
         {b c : Block} → ReadsExpression program scope condition e → ReadsBlock program scope body b between
         → ReadsBlock program between otherwise c after
-        → ReadsStatement program scope (IfTree at condition body otherwise) (If at e b c) after
+        → ReadsStatement program scope (IfTree at condition body otherwise) (Placed at (If e b c)) after
     ReadWhile : {scope after : NameScope} {at loop : ℕ} {condition : ExpressionTree} {e : Expression} {body : BlockTree} {b : Block}
         → ReadsExpression program scope condition e → ReadsBlock program scope body b after
-        → ReadsStatement program scope (WhileTree at condition body) (While at loop e b) after
-    ReadBreak : {scope : NameScope} {at : ℕ} → ReadsStatement program scope (BreakTree at) (Leave at exits.Break) scope
-    ReadContinue : {scope : NameScope} {at : ℕ} → ReadsStatement program scope (ContinueTree at) (Leave at exits.Continue) scope
+        → ReadsStatement program scope (WhileTree at condition body) (Placed at (While loop e b)) after
+    ReadBreak : {scope : NameScope} {at : ℕ} → ReadsStatement program scope (BreakTree at) (Placed at (Leave exits.Break)) scope
+    ReadContinue : {scope : NameScope} {at : ℕ} → ReadsStatement program scope (ContinueTree at) (Placed at (Leave exits.Continue)) scope
     ReadThrow : {scope : NameScope} {at n : ℕ} {exception : NameTree} → IsException program scope exception n
-        → ReadsStatement program scope (ThrowTree at exception) (Leave at (exits.Throw n)) scope
-    ReadReturn : {scope : NameScope} {at : ℕ} → ReadsStatement program scope (ReturnTree at None) (ReturnWith at None) scope
+        → ReadsStatement program scope (ThrowTree at exception) (Placed at (Leave (exits.Throw n))) scope
+    ReadReturn : {scope : NameScope} {at : ℕ} → ReadsStatement program scope (ReturnTree at None) (Placed at (ReturnWith None)) scope
     ReadReturnValue : {scope : NameScope} {at : ℕ} {value : ExpressionTree} {e : Expression} → ReadsExpression program scope value e
-        → ReadsStatement program scope (ReturnTree at (Some value)) (ReturnWith at (Some e)) scope
+        → ReadsStatement program scope (ReturnTree at (Some value)) (Placed at (ReturnWith (Some e))) scope
     ReadTry : {scope between after : NameScope} {at : ℕ} {body : BlockTree} {b : Block} {catches : CatchTrees} {handlers : Handlers}
         → ReadsBlock program scope body b between → ReadsCatches program between catches handlers after
-        → ReadsStatement program scope (TryTree at body catches) (Try at b handlers) after
+        → ReadsStatement program scope (TryTree at body catches) (Placed at (Try b handlers)) after
     ReadNested : {scope after : NameScope} {at : ℕ} {statements : StatementTrees} {b : Block}
         → ReadsBlock program scope (BlockOf at statements) b after
-        → ReadsStatement program scope (NestedTree (BlockOf at statements)) (Nested at b) after
+        → ReadsStatement program scope (NestedTree (BlockOf at statements)) (Placed at (Nested b)) after
 
   pub data ReadsBlock (program : Program) : NameScope → BlockTree → Block → NameScope → Type 0 where
     ReadBlock : {before inside : NameScope} {at : ℕ} {statements : StatementTrees} {b : Block}

@@ -13,7 +13,8 @@ use Rattle.common.specs.declared.base_type.BaseType.TheVariants.{Int, Boolean}
 use Rattle.common.specs.declared.value.Value.{Value}
 use Rattle.common.specs.declared.value.Value.TheVariants as values
 use Rattle.resolved.specs.declared.expression.Variable.TheVariants.{Global}
-use Rattle.resolved.specs.Program.{Program, ChannelEntry, GlobalEntry, SlotEntry, ResultEntry, ThrownEntry, ProcedureEntry}
+use Rattle.labels.specs.Channel.{ChannelContents}
+use Rattle.resolved.specs.Program.{Program, GlobalEntry, SlotEntry, ResultEntry, ThrownEntry, ProcedureEntry}
 use Rattle.common.specs.Values.{zero_of}
 use Rattle.resolved.specs.WellFormed.{same_base, cell_count}
 use Rattle.types.specs.declared.fault.TypeRefusalKind.TheVariants as refusals
@@ -219,7 +220,7 @@ counted top (GlobalItem at base label name value) = record top { globals = top.g
 counted top (ProcedureItem procedure) = record top { signatures = top.signatures ++ signature_of procedure ∷ [] }
 
 -- the entry of a channel, and of a global
-unfoldable pub channel_finding : LabelScope → ChannelTree → Finding ChannelEntry
+unfoldable pub channel_finding : LabelScope → ChannelTree → Finding ChannelContents
 channel_finding scope channel =
     label_finding scope channel.label gives λ label. record { direction = channel.direction; name = channel.name.text; label = label }
 

@@ -12,7 +12,7 @@ use Rattle.common.specs.declared.base_type.BaseType.TheVariants.{Int, Boolean}
 use Rattle.resolved.specs.declared.expression.Variable.{Variable}
 use Rattle.resolved.specs.declared.expression.Variable.TheVariants.{Local}
 use Rattle.resolved.specs.declared.statement.Exit.TheVariants as exits
-use Rattle.resolved.specs.Tree.{Expression, Statement, Assign, Clear, Store, Receive, Send, Call, If, While, Leave, ReturnWith, Try, Nested, Block, Empty, Then, Handlers, NoMore, Catch}
+use Rattle.resolved.specs.Tree.{Expression, Statement, Placed, Assign, Clear, Store, Receive, Send, Call, If, While, Leave, ReturnWith, Try, Nested, Block, Empty, Then, Handlers, NoMore, Catch}
 use Rattle.resolved.specs.Program.{SlotEntry}
 use Rattle.resolved.specs.WellFormed.{same_base}
 use Rattle.types.specs.declared.fault.TypeRefusalKind.TheVariants as refusals
@@ -74,11 +74,11 @@ call_finding signatures names (name, written) = do
 unfoldable pub assigned_finding : List Signature → Environment → (at : ℕ) → Variable → BaseType → RightTree → Finding Statement
 assigned_finding signatures names at target base (ReceivedTree receive_at channel) = do
   _ ← require (same_base Int base) refusals.WrongType receive_at
-  use_as (item_of (Channel Input)) (names channel.text) channel.at gives λ number. Receive at number (Some target)
+  use_as (item_of (Channel Input)) (names channel.text) channel.at gives λ number. Placed at (Receive number (Some target))
 assigned_finding signatures names at target base (CalledTree call) = do
   (procedure, arguments, result) ← call_finding signatures names call
-  give_if (option_map_or (same_base base) result false) (Call at procedure arguments (Some target)) refusals.WrongType call.0.at
-assigned_finding signatures names at target base (ValueTree value) = typed_finding names base value gives Assign at target
+  give_if (option_map_or (same_base base) result false) (Placed at (Call procedure arguments (Some target))) refusals.WrongType call.0.at
+assigned_finding signatures names at target base (ValueTree value) = typed_finding names base value gives λ e. Placed at (Assign target e)
 
 -- ---- declarations
 
@@ -96,42 +96,42 @@ unfoldable mutual
     assigned_finding setting.signatures point.names at (Local (length point.slots)) base value gives λ statement. (next, statement)
   statement_finding setting point (DeclareArrayTree at base label name size) = do
     next ← declared_finding (label_scope setting point) point at base label name (Some size.1)
-    size_finding size gives λ _. (next, Clear at (length point.slots))
+    size_finding size gives λ _. (next, Placed at (Clear (length point.slots)))
   statement_finding setting point (AssignTree target value) = do
     (x, base) ← use_as scalar_of (point.names target.text) target.at
     assigned_finding setting.signatures point.names target.at x base value gives λ statement. (point, statement)
   statement_finding setting point (AssignElementTree array index value) = do
     (a, base, size) ← use_as array_of (point.names array.text) array.at
     i ← typed_finding point.names Int index
-    typed_finding point.names base value gives λ e. (point, Store array.at a size i e)
+    typed_finding point.names base value gives λ e. (point, Placed array.at (Store a size i e))
   statement_finding setting point (CallTree' call) = call_finding setting.signatures point.names call
-      gives λ (procedure, arguments, result). (point, Call call.0.at procedure arguments None)
+      gives λ (procedure, arguments, result). (point, Placed call.0.at (Call procedure arguments None))
   statement_finding setting point (ReceiveTree at channel) =
-      use_as (item_of (Channel Input)) (point.names channel.text) channel.at gives λ number. (point, Receive at number None)
+      use_as (item_of (Channel Input)) (point.names channel.text) channel.at gives λ number. (point, Placed at (Receive number None))
   statement_finding setting point (SendTree at channel value) = do
     number ← use_as (item_of (Channel Output)) (point.names channel.text) channel.at
-    typed_finding point.names Int value gives λ e. (point, Send at number e)
+    typed_finding point.names Int value gives λ e. (point, Placed at (Send number e))
   statement_finding setting point (IfTree at condition body otherwise) = do
     e ← typed_finding point.names Boolean condition
     inner ← block_finding setting point body
-    block_finding setting inner.0 otherwise gives λ other. (other.0, If at e inner.1 other.1)
+    block_finding setting inner.0 otherwise gives λ other. (other.0, Placed at (If e inner.1 other.1))
   statement_finding setting point (WhileTree at condition body) = do
     e ← typed_finding point.names Boolean condition
-    block_finding setting (record point { loops = point.loops + 1 }) body gives λ inner. (inner.0, While at point.loops e inner.1)
-  statement_finding setting point (BreakTree at) = Ok (point, Leave at exits.Break)
-  statement_finding setting point (ContinueTree at) = Ok (point, Leave at exits.Continue)
+    block_finding setting (record point { loops = point.loops + 1 }) body gives λ inner. (inner.0, Placed at (While point.loops e inner.1))
+  statement_finding setting point (BreakTree at) = Ok (point, Placed at (Leave exits.Break))
+  statement_finding setting point (ContinueTree at) = Ok (point, Placed at (Leave exits.Continue))
   statement_finding setting point (ThrowTree at exception) =
-      use_as (item_of Exception) (point.names exception.text) exception.at gives λ number. (point, Leave at (exits.Throw number))
-  statement_finding setting point (ReturnTree at None) = give_if (is_none setting.result) (point, ReturnWith at None) refusals.WrongType at
+      use_as (item_of Exception) (point.names exception.text) exception.at gives λ number. (point, Placed at (Leave (exits.Throw number)))
+  statement_finding setting point (ReturnTree at None) = give_if (is_none setting.result) (point, Placed at (ReturnWith None)) refusals.WrongType at
   -- a value is looked at before it is refused in a procedure that gives none
   statement_finding setting point (ReturnTree at (Some value)) = do
     (e, base) ← expression_finding point.names value
-    give_if (option_map_or (same_base base) setting.result false) (point, ReturnWith at (Some e)) refusals.WrongType (expression_at value)
+    give_if (option_map_or (same_base base) setting.result false) (point, Placed at (ReturnWith (Some e))) refusals.WrongType (expression_at value)
   statement_finding setting point (TryTree at body catches) = do
     inner ← block_finding setting point body
-    catches_finding setting inner.0 catches gives λ handled. (handled.0, Try at inner.1 handled.1)
+    catches_finding setting inner.0 catches gives λ handled. (handled.0, Placed at (Try inner.1 handled.1))
   statement_finding setting point (NestedTree (BlockOf at statements)) =
-      block_finding setting point (BlockOf at statements) gives λ inner. (inner.0, Nested at inner.1)
+      block_finding setting point (BlockOf at statements) gives λ inner. (inner.0, Placed at (Nested inner.1))
 
   -- after a block what was in scope before it is in scope again; its slots stay taken
   pub block_finding : Setting → Point → BlockTree → Finding (Point × Block)

@@ -13,7 +13,7 @@ use Rattle.common.specs.declared.operator.Prefix.TheVariants.{Not}
 use Rattle.common.specs.declared.operator.Connective.TheVariants.{And, Or}
 use Rattle.common.specs.declared.value.Value.TheVariants.{Int as Number, Bool as Truth}
 use Rattle.resolved.specs.declared.statement.Exit.TheVariants.{Normal, Throw}
-use Rattle.resolved.specs.Tree.{Expression, Logical, Element, Unary, Binary, Short, Statement, Clear, Store, Receive, Send, Call, While, Leave, ReturnWith, Nested, Empty}
+use Rattle.resolved.specs.Tree.{Expression, Logical, Element, Unary, Binary, Short, Statement, Placed, Clear, Store, Receive, Send, Call, While, Leave, ReturnWith, Nested, Empty}
 use Rattle.resolved.specs.Program.{ProcedureEntry, SlotEntry, GlobalEntry}
 use Rattle.resolved.specs.WellFormed.{well_formed}
 use Rattle.resolved.proofs.Cases.Kit.{arith, oops, s_channel, pub_channel, alice, int_slot, unlabelled_slot, array_slot, int, minus, var, set_to, send_public, block, on, try_to, if_then, procedure, thrown, program, program_with}
@@ -33,8 +33,8 @@ kinds_fit : fitting (int_slot [] ∷ boolean_slot ∷ array_slot 3 alice ∷ [])
     set_to 0 (Binary (Compute Add) (int 1) (minus 2))
     ∷ set_to 1 (Short And (Binary (Compare (Ordered LessThan)) (var 0) (int 5)) (Unary Not (var 1)))
     ∷ set_to 1 (Binary (Match Same) (var 1) (Binary (Compare (Matched Same)) (var 0) (int 1)))
-    ∷ Clear 0 2 ∷ Store 0 (Local 2) 3 (var 0) (Element (Local 2) 3 (int 0))
-    ∷ try_to (Receive 0 s_channel (Some (Local 0)) ∷ Leave 0 (Throw oops) ∷ []) (on oops []) ∷ send_public (var 0) ∷ []) ≡ true
+    ∷ Placed 0 (Clear 2) ∷ Placed 0 (Store (Local 2) 3 (var 0) (Element (Local 2) 3 (int 0)))
+    ∷ try_to (Placed 0 (Receive s_channel (Some (Local 0))) ∷ Placed 0 (Leave (Throw oops)) ∷ []) (on oops []) ∷ send_public (var 0) ∷ []) ≡ true
 kinds_fit = refl
 
 -- each of these has one thing of another kind than its place wants
@@ -48,14 +48,14 @@ kinds_refused : none_fits (int_slot [] ∷ boolean_slot ∷ array_slot 3 alice �
     ∷ set_to 0 (Unary Not (int 1)) ∷ set_to 1 (Unary Not (int 1)) ∷ set_to 1 (Short Or (int 1) (var 1))
     ∷ set_to 0 (Element (Local 2) 4 (int 0)) ∷ set_to 0 (Element (Local 2) 3 (var 1)) ∷ set_to 0 (Element (Local 0) 3 (int 0))
     ∷ set_to 0 (int 2147483648)
-    ∷ Clear 0 0 ∷ Clear 0 9 ∷ Store 0 (Local 2) 3 (int 0) (Logical true) ∷ Store 0 (Local 2) 2 (int 0) (int 0) ∷ Store 0 (Local 2) 3 (var 1) (int 0)
-    ∷ Receive 0 pub_channel None ∷ Receive 0 9 None ∷ Receive 0 s_channel (Some (Local 1)) ∷ Receive 0 s_channel (Some (Local 2))
-    ∷ Send 0 s_channel (int 0) ∷ Send 0 9 (int 0) ∷ send_public (var 1)
-    ∷ Call 0 9 [] None ∷ Call 0 0 (int 0 ∷ []) None ∷ Call 0 0 [] (Some (Local 0))
-    ∷ if_then (int 0) [] ∷ if_then (Logical true) (set_to 1 (int 0) ∷ []) ∷ Nested 0 (block (set_to 1 (int 0) ∷ []))
-    ∷ Leave 0 Normal ∷ Leave 0 (Throw 4) ∷ ReturnWith 0 (Some (int 0))
+    ∷ Placed 0 (Clear 0) ∷ Placed 0 (Clear 9) ∷ Placed 0 (Store (Local 2) 3 (int 0) (Logical true)) ∷ Placed 0 (Store (Local 2) 2 (int 0) (int 0)) ∷ Placed 0 (Store (Local 2) 3 (var 1) (int 0))
+    ∷ Placed 0 (Receive pub_channel None) ∷ Placed 0 (Receive 9 None) ∷ Placed 0 (Receive s_channel (Some (Local 1))) ∷ Placed 0 (Receive s_channel (Some (Local 2)))
+    ∷ Placed 0 (Send s_channel (int 0)) ∷ Placed 0 (Send 9 (int 0)) ∷ send_public (var 1)
+    ∷ Placed 0 (Call 9 [] None) ∷ Placed 0 (Call 0 (int 0 ∷ []) None) ∷ Placed 0 (Call 0 [] (Some (Local 0)))
+    ∷ if_then (int 0) [] ∷ if_then (Logical true) (set_to 1 (int 0) ∷ []) ∷ Placed 0 (Nested (block (set_to 1 (int 0) ∷ [])))
+    ∷ Placed 0 (Leave Normal) ∷ Placed 0 (Leave (Throw 4)) ∷ Placed 0 (ReturnWith (Some (int 0)))
     ∷ try_to [] (on 4 []) ∷ try_to [] (on oops (set_to 1 (int 0) ∷ [])) ∷ try_to (set_to 1 (int 0) ∷ []) (on oops [])
-    ∷ While 0 0 (Logical true) Empty ∷ [])
+    ∷ Placed 0 (While 0 (Logical true) Empty) ∷ [])
 kinds_refused = (
   refl,
   (
@@ -175,8 +175,8 @@ kinds_refused = (
 -- a procedure with a value and a parameter, and calls of it
 abbrev calling : List Expression → (target : ℕ) → Bool
 calling arguments target = well_formed (program (
-    main (int_slot [] ∷ boolean_slot ∷ []) (Call 0 1 arguments (Some (Local target)) ∷ [])
-    ∷ record (main (boolean_slot ∷ []) (ReturnWith 0 (Some (int 1)) ∷ []))
+    main (int_slot [] ∷ boolean_slot ∷ []) (Placed 0 (Call 1 arguments (Some (Local target))) ∷ [])
+    ∷ record (main (boolean_slot ∷ []) (Placed 0 (ReturnWith (Some (int 1))) ∷ []))
     { parameters = 1; result = Some (record { base = Int; label = [] }) } ∷ []))
 
 calls_fit : (calling (Logical true ∷ []) 0 ≡ true) × (calling (int 1 ∷ []) 0 ≡ false) × (calling (Logical true ∷ []) 1 ≡ false)
@@ -187,10 +187,10 @@ calls_fit = (refl, refl, refl, refl, refl)
 abbrev loops : List Statement → ℕ → Bool
 loops statements count = well_formed (program (record (procedure [] statements) { loops = count } ∷ []))
 
-loop_numbers : (loops (While 0 0 (Logical true) (block (While 0 1 (Logical true) Empty ∷ [])) ∷ While 0 2 (Logical true) Empty ∷ []) 3 ≡ true)
-    × (loops (While 0 0 (Logical true) (block (While 0 1 (Logical true) Empty ∷ [])) ∷ While 0 2 (Logical true) Empty ∷ []) 2 ≡ false)
-    × (loops (While 0 1 (Logical true) (block (While 0 0 (Logical true) Empty ∷ [])) ∷ []) 2 ≡ false)
-    × (loops (While 0 0 (Logical true) Empty ∷ While 0 0 (Logical true) Empty ∷ []) 2 ≡ false)
+loop_numbers : (loops (Placed 0 (While 0 (Logical true) (block (Placed 0 (While 1 (Logical true) Empty) ∷ []))) ∷ Placed 0 (While 2 (Logical true) Empty) ∷ []) 3 ≡ true)
+    × (loops (Placed 0 (While 0 (Logical true) (block (Placed 0 (While 1 (Logical true) Empty) ∷ []))) ∷ Placed 0 (While 2 (Logical true) Empty) ∷ []) 2 ≡ false)
+    × (loops (Placed 0 (While 1 (Logical true) (block (Placed 0 (While 0 (Logical true) Empty) ∷ []))) ∷ []) 2 ≡ false)
+    × (loops (Placed 0 (While 0 (Logical true) Empty) ∷ Placed 0 (While 0 (Logical true) Empty) ∷ []) 2 ≡ false)
 loop_numbers = (refl, refl, refl, refl)
 
 -- sizes: an array has 1 to 65536 elements, and a frame 1048576 cells
@@ -229,7 +229,7 @@ labels_fit = (refl, refl, refl, refl, refl, refl, refl, refl)
 
 -- `main` has no parameters and no value, and is there
 main_is : (well_formed (program []) ≡ false) × (throwing (record (main (int_slot [] ∷ []) []) { parameters = 1 }) ≡ false)
-    × (throwing (record (main [] (ReturnWith 0 (Some (int 1)) ∷ [])) { result = Some (record { base = Int; label = [] }) }) ≡ false)
+    × (throwing (record (main [] (Placed 0 (ReturnWith (Some (int 1))) ∷ [])) { result = Some (record { base = Int; label = [] }) }) ≡ false)
 main_is = (refl, refl, refl)
 
 -- globals: the cells hold a value of the base type, those of an array 0 or `false`

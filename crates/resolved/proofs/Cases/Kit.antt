@@ -16,7 +16,7 @@ use Rattle.common.specs.declared.operator.Order.TheVariants.{GreaterThan}
 use Rattle.common.specs.declared.operator.Prefix.TheVariants.{Negate}
 use Rattle.common.specs.declared.direction.Direction.TheVariants.{Input, Output}
 use Rattle.resolved.specs.declared.statement.Exit.TheVariants.{Normal, Throw}
-use Rattle.resolved.specs.Tree.{Expression, Integer, Unary, Binary, Statement, Assign, Receive, Send, If, While, Try, Block, Empty, Then, Handlers, NoMore, Catch}
+use Rattle.resolved.specs.Tree.{Expression, Integer, Unary, Binary, Statement, Placed, Assign, Receive, Send, If, While, Try, Block, Empty, Then, Handlers, NoMore, Catch}
 use Rattle.resolved.specs.Program.{Program, ProcedureEntry, ThrownEntry, GlobalEntry, SlotEntry}
 use Rattle.resolved.specs.SourceState.{World}
 use Rattle.resolved.specs.Meaning.{Outcome, Ended, Stopped, Stop, run_within, state_after}
@@ -69,10 +69,10 @@ abbrev pub minus : ℕ → Expression
 minus n = Unary Negate (Integer n)
 
 abbrev pub set_to : ℕ → Expression → Statement
-set_to n e = Assign 0 (Local n) e
+set_to n e = Placed 0 (Assign (Local n) e)
 
 abbrev pub send_public : Expression → Statement
-send_public e = Send 0 pub_channel e
+send_public e = Placed 0 (Send pub_channel e)
 
 abbrev pub positive : Expression → Expression
 positive e = Binary (Compare (Ordered GreaterThan)) e (Integer 0)
@@ -86,17 +86,17 @@ abbrev pub on : (exception : ℕ) → List Statement → Handlers
 on exception statements = Catch 0 exception (block statements) NoMore
 
 abbrev pub try_to : List Statement → Handlers → Statement
-try_to statements handlers = Try 0 (block statements) handlers
+try_to statements handlers = Placed 0 (Try (block statements) handlers)
 
 abbrev pub if_then : Expression → List Statement → Statement
-if_then e statements = If 0 e (block statements) Empty
+if_then e statements = Placed 0 (If e (block statements) Empty)
 
 abbrev pub while_loop : Expression → List Statement → Statement
-while_loop e statements = While 0 0 e (block statements)
+while_loop e statements = Placed 0 (While 0 e (block statements))
 
 -- `int{Alice:} x = 0; try { x = receive s; } catch (End) { }` in slot 0
 abbrev pub receive_secret : List Statement
-receive_secret = set_to 0 (int 0) ∷ try_to (Receive 0 s_channel (Some (Local 0)) ∷ []) (on end []) ∷ []
+receive_secret = set_to 0 (int 0) ∷ try_to (Placed 0 (Receive s_channel (Some (Local 0))) ∷ []) (on end []) ∷ []
 
 -- a procedure without value and parameters, and its variants
 abbrev pub procedure : List SlotEntry → List Statement → ProcedureEntry

@@ -14,7 +14,7 @@ use Rattle.common.specs.declared.operator.Order.TheVariants.{LessThan}
 use Rattle.common.specs.declared.operator.Sameness.TheVariants.{Same}
 use Rattle.common.specs.declared.operator.Connective.TheVariants.{And}
 use Rattle.resolved.specs.declared.statement.Exit.TheVariants.{Break, Continue, Throw}
-use Rattle.resolved.specs.Tree.{Logical, Binary, Short, Statement, Clear, Store, Receive, Call, Leave, ReturnWith, Nested}
+use Rattle.resolved.specs.Tree.{Logical, Binary, Short, Statement, Placed, Clear, Store, Receive, Call, Leave, ReturnWith, Nested}
 use Rattle.resolved.specs.Program.{Program}
 use Rattle.resolved.specs.Labelled.{Labelling}
 use Rattle.resolved.proofs.Cases.Kit.{arith, bounds, end, oops, s_channel, q_channel, alice, alice_to_bob, int_slot, unlabelled_slot, array_slot, int, var, set_to, send_public, positive, block, on, try_to, if_then, while_loop, receive_secret, procedure, thrown, program, main_program, secret_program, all_written, loop_is, locals_are, fits}
@@ -41,55 +41,55 @@ unlabelled_refused (policy ∷ rest) = and-false _
 
 -- ---- the declaration of an array
 -- `if (x > 0) { int{Alice:} a[2]; }` and `if (x > 0) { int{} a[2]; }`
-array_fits : fits (secret_program (array_slot 2 alice ∷ []) (if_then (positive (var 0)) (Clear 0 1 ∷ []) ∷ [])) all_written ≡ true
+array_fits : fits (secret_program (array_slot 2 alice ∷ []) (if_then (positive (var 0)) (Placed 0 (Clear 1) ∷ []) ∷ [])) all_written ≡ true
 unfolding int_wrap
 array_fits = refl
 
 array_refused : (labelling : Labelling)
-    → fits (secret_program (array_slot 2 [] ∷ []) (if_then (positive (var 0)) (Clear 0 1 ∷ []) ∷ [])) labelling ≡ false
+    → fits (secret_program (array_slot 2 [] ∷ []) (if_then (positive (var 0)) (Placed 0 (Clear 1) ∷ []) ∷ [])) labelling ≡ false
 unfolding int_wrap
 array_refused labelling = refl
 
 -- ---- a store
 -- `int{Alice:} a[2]; try { a[x] = 1; } catch (Bounds) { } send pub, 1;`
 store_fits : fits (secret_program (array_slot 2 alice ∷ []) (
-    Clear 0 1 ∷ try_to (Store 0 (Local 1) 2 (var 0) (int 1) ∷ []) (on bounds []) ∷ send_public (int 1) ∷ [])) all_written ≡ true
+    Placed 0 (Clear 1) ∷ try_to (Placed 0 (Store (Local 1) 2 (var 0) (int 1)) ∷ []) (on bounds []) ∷ send_public (int 1) ∷ [])) all_written ≡ true
 unfolding int_wrap
 store_fits = refl
 
 -- the same with `int{} a[2];`
 store_refused : (labelling : Labelling) → fits (secret_program (array_slot 2 [] ∷ []) (
-    Clear 0 1 ∷ try_to (Store 0 (Local 1) 2 (var 0) (int 1) ∷ []) (on bounds []) ∷ [])) labelling ≡ false
+    Placed 0 (Clear 1) ∷ try_to (Placed 0 (Store (Local 1) 2 (var 0) (int 1)) ∷ []) (on bounds []) ∷ [])) labelling ≡ false
 unfolding int_wrap
 store_refused labelling = refl
 
 -- `try { a[x] = 1; send pub, 1; } catch (Bounds) { }`: that the index was in range would be reported
 store_range_refused : (labelling : Labelling) → fits (secret_program (array_slot 2 alice ∷ []) (
-    Clear 0 1 ∷ try_to (Store 0 (Local 1) 2 (var 0) (int 1) ∷ send_public (int 1) ∷ []) (on bounds []) ∷ [])) labelling ≡ false
+    Placed 0 (Clear 1) ∷ try_to (Placed 0 (Store (Local 1) 2 (var 0) (int 1)) ∷ send_public (int 1) ∷ []) (on bounds []) ∷ [])) labelling ≡ false
 unfolding int_wrap
 store_range_refused labelling = refl
 
 -- ---- receive
 -- `if (x > 0) { try { receive s; } catch (End) { } }` and the same with q: the number taken from q would tell of x
 receive_fits : fits (secret_program [] (
-    if_then (positive (var 0)) (try_to (Receive 0 s_channel None ∷ []) (on end []) ∷ []) ∷ [])) all_written ≡ true
+    if_then (positive (var 0)) (try_to (Placed 0 (Receive s_channel None) ∷ []) (on end []) ∷ []) ∷ [])) all_written ≡ true
 unfolding int_wrap
 receive_fits = refl
 
 receive_refused : (labelling : Labelling) → fits (secret_program [] (
-    if_then (positive (var 0)) (try_to (Receive 0 q_channel None ∷ []) (on end []) ∷ []) ∷ [])) labelling ≡ false
+    if_then (positive (var 0)) (try_to (Placed 0 (Receive q_channel None) ∷ []) (on end []) ∷ []) ∷ [])) labelling ≡ false
 unfolding int_wrap
 receive_refused labelling = refl
 
 -- `int{} y = 0; try { y = receive s; } catch (End) { }`
 target_refused : (labelling : Labelling)
-    → fits (main_program (int_slot [] ∷ []) (try_to (Receive 0 s_channel (Some (Local 0)) ∷ []) (on end []) ∷ [])) labelling ≡ false
+    → fits (main_program (int_slot [] ∷ []) (try_to (Placed 0 (Receive s_channel (Some (Local 0))) ∷ []) (on end []) ∷ [])) labelling ≡ false
 unfolding int_wrap
 target_refused labelling = refl
 
 -- `void main() throws (End{Alice:}) { int x = receive s; send pub, x; }`
 reported_refused : (label : Label)
-    → fits (program (record (procedure (unlabelled_slot ∷ []) (Receive 0 s_channel (Some (Local 0)) ∷ send_public (var 0) ∷ []))
+    → fits (program (record (procedure (unlabelled_slot ∷ []) (Placed 0 (Receive s_channel (Some (Local 0))) ∷ send_public (var 0) ∷ []))
     { throws = thrown end alice; end_label = alice } ∷ [])) (locals_are label) ≡ false
 unfolding int_wrap
 reported_refused [] = refl
@@ -117,7 +117,7 @@ if_refused labelling = refl
 
 -- `if (x > 0) { return; } send pub, 1;`: two exits are possible, so the second statement is not reached at the first one's label
 if_return_refused : (labelling : Labelling)
-    → fits (secret_program [] (if_then (positive (var 0)) (ReturnWith 0 None ∷ []) ∷ send_public (int 1) ∷ [])) labelling ≡ false
+    → fits (secret_program [] (if_then (positive (var 0)) (Placed 0 (ReturnWith None) ∷ []) ∷ send_public (int 1) ∷ [])) labelling ≡ false
 unfolding int_wrap
 if_return_refused labelling = refl
 
@@ -130,7 +130,7 @@ while_fits = refl
 -- `while (true) { send pub, 1; if (x > 0) { break; } }`: the second round tells of x, since the body's normal exit comes back
 while_refused : (label : Label)
     → fits (secret_program [] (while_loop (Logical true) (
-    send_public (int 1) ∷ if_then (positive (var 0)) (Leave 0 Break ∷ []) ∷ []) ∷ [])) (loop_is label) ≡ false
+    send_public (int 1) ∷ if_then (positive (var 0)) (Placed 0 (Leave Break) ∷ []) ∷ []) ∷ [])) (loop_is label) ≡ false
 unfolding int_wrap
 while_refused [] = refl
 while_refused (policy ∷ rest) = refl
@@ -138,7 +138,7 @@ while_refused (policy ∷ rest) = refl
 -- the same with `continue` in the place of `break`, and then a `break`
 continue_refused : (label : Label)
     → fits (secret_program [] (while_loop (Logical true) (
-    send_public (int 1) ∷ if_then (positive (var 0)) (Leave 0 Continue ∷ []) ∷ Leave 0 Break ∷ []) ∷ [])) (loop_is label) ≡ false
+    send_public (int 1) ∷ if_then (positive (var 0)) (Placed 0 (Leave Continue) ∷ []) ∷ Placed 0 (Leave Break) ∷ []) ∷ [])) (loop_is label) ≡ false
 unfolding int_wrap
 continue_refused [] = refl
 continue_refused (policy ∷ rest) = refl
@@ -155,19 +155,19 @@ public_loop_fits = refl
 -- exit has the label of `break`; and `while (true) { break; } send pub, 1;`, where it has one exit
 break_refused : (label : Label)
     → fits (secret_program [] (
-    try_to (while_loop (Logical true) (if_then (positive (var 0)) (Leave 0 Break ∷ []) ∷ Leave 0 (Throw oops) ∷ [])
+    try_to (while_loop (Logical true) (if_then (positive (var 0)) (Placed 0 (Leave Break) ∷ []) ∷ Placed 0 (Leave (Throw oops)) ∷ [])
     ∷ send_public (int 1) ∷ []) (on oops []) ∷ [])) (loop_is label) ≡ false
 unfolding int_wrap
 break_refused [] = refl
 break_refused (policy ∷ rest) = refl
 
-break_fits : fits (secret_program [] (while_loop (Logical true) (Leave 0 Break ∷ []) ∷ send_public (int 1) ∷ [])) (loop_is []) ≡ true
+break_fits : fits (secret_program [] (while_loop (Logical true) (Placed 0 (Leave Break) ∷ []) ∷ send_public (int 1) ∷ [])) (loop_is []) ≡ true
 unfolding int_wrap
 break_fits = refl
 
 -- `throw` in a secret branch: `try { if (x > 0) { throw Oops; } send pub, 1; } catch (Oops) { }`
 throw_refused : (labelling : Labelling) → fits (secret_program [] (
-    try_to (if_then (positive (var 0)) (Leave 0 (Throw oops) ∷ []) ∷ send_public (int 1) ∷ []) (on oops []) ∷ [])) labelling ≡ false
+    try_to (if_then (positive (var 0)) (Placed 0 (Leave (Throw oops)) ∷ []) ∷ send_public (int 1) ∷ []) (on oops []) ∷ [])) labelling ≡ false
 unfolding int_wrap
 throw_refused labelling = refl
 
@@ -185,7 +185,7 @@ try_refused labelling = refl
 
 -- a divisor that cannot be 0 tells nothing: `try { int{Alice:} y = x / 2; send pub, 1; throw Oops; } catch (Oops) { send pub, 2; }`
 safe_division_fits : fits (secret_program (int_slot alice ∷ []) (
-    try_to (set_to 1 (Binary (Compute Divide) (var 0) (int 2)) ∷ send_public (int 1) ∷ Leave 0 (Throw oops) ∷ []) (on oops (send_public (int 2) ∷ []))
+    try_to (set_to 1 (Binary (Compute Divide) (var 0) (int 2)) ∷ send_public (int 1) ∷ Placed 0 (Leave (Throw oops)) ∷ []) (on oops (send_public (int 2) ∷ []))
     ∷ [])) all_written ≡ true
 unfolding int_wrap
 safe_division_fits = refl
@@ -200,7 +200,7 @@ short_refused labelling = refl
 -- ---- blocks
 -- `{ x = 1; x = 2; } send pub, 1;`
 block_fits : fits (secret_program [] (
-    Nested 0 (block (if_then (positive (var 0)) (set_to 0 (int 1) ∷ []) ∷ set_to 0 (int 2) ∷ [])) ∷ send_public (int 1) ∷ [])) all_written
+    Placed 0 (Nested (block (if_then (positive (var 0)) (set_to 0 (int 1) ∷ []) ∷ set_to 0 (int 2) ∷ []))) ∷ send_public (int 1) ∷ [])) all_written
     ≡ true
 unfolding int_wrap
 block_fits = refl
@@ -215,7 +215,7 @@ block_refused labelling = refl
 -- `try { if (x > 0) { throw Oops; } x = 1; send pub, 1; } catch (Oops) { }`: the `if` has two exits, and all that follows in the block
 -- is reached at the label of its normal exit
 rest_refused : (labelling : Labelling) → fits (secret_program [] (
-    try_to (if_then (positive (var 0)) (Leave 0 (Throw oops) ∷ []) ∷ set_to 0 (int 1) ∷ send_public (int 1) ∷ []) (on oops []) ∷ []))
+    try_to (if_then (positive (var 0)) (Placed 0 (Leave (Throw oops)) ∷ []) ∷ set_to 0 (int 1) ∷ send_public (int 1) ∷ []) (on oops []) ∷ []))
     labelling ≡ false
 unfolding int_wrap
 rest_refused labelling = refl
@@ -224,7 +224,7 @@ rest_refused labelling = refl
 -- block, which has one exit, is no statement of its own and so no single path
 no_single_path : (labelling : Labelling) → fits (secret_program (int_slot [] ∷ []) (
     try_to (
-    if_then (positive (var 1)) (ReturnWith 0 None ∷ []) ∷ if_then (positive (var 0)) (Leave 0 (Throw oops) ∷ []) ∷ Leave 0 (Throw oops) ∷ [])
+    if_then (positive (var 1)) (Placed 0 (ReturnWith None) ∷ []) ∷ if_then (positive (var 0)) (Placed 0 (Leave (Throw oops)) ∷ []) ∷ Placed 0 (Leave (Throw oops)) ∷ [])
     (on oops (send_public (int 1) ∷ [])) ∷ [])) labelling ≡ false
 unfolding int_wrap
 no_single_path labelling = refl
@@ -232,8 +232,8 @@ no_single_path labelling = refl
 -- the same with the rest in braces, which is a statement
 single_path_fits : fits (secret_program (int_slot [] ∷ []) (
     try_to (
-    if_then (positive (var 1)) (ReturnWith 0 None ∷ [])
-    ∷ Nested 0 (block (if_then (positive (var 0)) (Leave 0 (Throw oops) ∷ []) ∷ Leave 0 (Throw oops) ∷ [])) ∷ [])
+    if_then (positive (var 1)) (Placed 0 (ReturnWith None) ∷ [])
+    ∷ Placed 0 (Nested (block (if_then (positive (var 0)) (Placed 0 (Leave (Throw oops)) ∷ []) ∷ Placed 0 (Leave (Throw oops)) ∷ []))) ∷ [])
     (on oops (send_public (int 1) ∷ [])) ∷ [])) all_written ≡ true
 unfolding int_wrap
 single_path_fits = refl
@@ -241,7 +241,7 @@ single_path_fits = refl
 -- ---- calls. `void f{begin}() { .. }` and `if (x > 0) { f(); }`
 calling : Label → List Statement → Program
 calling begin statements = program (
-    procedure (int_slot alice ∷ []) (receive_secret ++ (if_then (positive (var 0)) (Call 0 1 [] None ∷ []) ∷ []))
+    procedure (int_slot alice ∷ []) (receive_secret ++ (if_then (positive (var 0)) (Placed 0 (Call 1 [] None) ∷ []) ∷ []))
     ∷ record (procedure [] statements) { begin_label = begin; end_label = begin } ∷ [])
 
 call_fits : fits (calling alice []) all_written ≡ true
@@ -264,18 +264,18 @@ calling_k parameter end_label thrown_label statements = program (
     { parameters = 1; throws = thrown arith thrown_label; end_label = end_label } ∷ [])
 
 argument_fits : fits (calling_k alice alice alice (
-    try_to (Call 0 1 (var 0 ∷ []) None ∷ []) (on arith []) ∷ send_public (int 1) ∷ [])) all_written ≡ true
+    try_to (Placed 0 (Call 1 (var 0 ∷ []) None) ∷ []) (on arith []) ∷ send_public (int 1) ∷ [])) all_written ≡ true
 unfolding int_wrap calling_k
 argument_fits = refl
 
 argument_refused : (labelling : Labelling) → fits (calling_k [] alice alice (
-    try_to (Call 0 1 (var 0 ∷ []) None ∷ []) (on arith []) ∷ send_public (int 1) ∷ [])) labelling ≡ false
+    try_to (Placed 0 (Call 1 (var 0 ∷ []) None) ∷ []) (on arith []) ∷ send_public (int 1) ∷ [])) labelling ≡ false
 unfolding int_wrap calling_k
 argument_refused labelling = refl
 
 -- the end label: `try { k(1); send pub, 1; } catch (Arith) { }`, where k may have an end label by which it ends normally or not
 end_label_refused : (labelling : Labelling) → fits (calling_k alice alice alice (
-    try_to (Call 0 1 (int 1 ∷ []) None ∷ send_public (int 1) ∷ []) (on arith []) ∷ [])) labelling ≡ false
+    try_to (Placed 0 (Call 1 (int 1 ∷ []) None) ∷ send_public (int 1) ∷ []) (on arith []) ∷ [])) labelling ≡ false
 unfolding int_wrap calling_k
 end_label_refused labelling = refl
 
@@ -298,8 +298,8 @@ procedure_fits = refl
 -- `int{value} g(int{Alice:} n) { return n + 1; }` and `y = g(1);` with y of that label
 returning : (value target : Label) → Program
 returning value target = program (
-    procedure (int_slot target ∷ []) (Call 0 1 (int 1 ∷ []) (Some (Local 0)) ∷ [])
-    ∷ record (procedure (int_slot alice ∷ []) (ReturnWith 0 (Some (Binary (Compute Add) (var 0) (int 1))) ∷ []))
+    procedure (int_slot target ∷ []) (Placed 0 (Call 1 (int 1 ∷ []) (Some (Local 0))) ∷ [])
+    ∷ record (procedure (int_slot alice ∷ []) (Placed 0 (ReturnWith (Some (Binary (Compute Add) (var 0) (int 1)))) ∷ []))
     { parameters = 1; result = Some (record { base = Int; label = value }) } ∷ [])
 
 return_fits : fits (returning alice alice) all_written ≡ true

@@ -13,7 +13,7 @@ use Rattle.common.specs.declared.operator.Connective.TheVariants.{And, Or}
 use Rattle.common.specs.declared.operator.Prefix.TheVariants.{Negate}
 use Rattle.common.specs.declared.value.Value.TheVariants.{Int as Number}
 use Rattle.resolved.specs.declared.statement.Exit.TheVariants.{Break, Continue, Throw}
-use Rattle.resolved.specs.Tree.{Expression, Logical, Read, Element, Unary, Binary, Short, Assign, Clear, Store, Receive, Call, Leave, ReturnWith, Catch}
+use Rattle.resolved.specs.Tree.{Expression, Logical, Read, Element, Unary, Binary, Short, Placed, Assign, Clear, Store, Receive, Call, Leave, ReturnWith, Catch}
 use Rattle.resolved.specs.Program.{Program}
 use Rattle.resolved.specs.Meaning.{Deep, OutOfFuel, frame_limit}
 use Rattle.resolved.proofs.Cases.Kit.{arith, bounds, end, oops, s_channel, pub_channel, int_slot, array_slot, int, minus, var, set_to, send_public, positive, block, on, try_to, if_then, while_loop, procedure, thrown, program, program_with, main_program, secret_program, silence, secret, finished, threw, stopped, run}
@@ -48,7 +48,7 @@ wrapping = refl
 -- `int z = 0; int a[2]; try { int y = 1 / z + a[z - 1]; } catch (Arith) { send pub, 1; } catch (Bounds) { send pub, 2; }`:
 -- the left operand raises first
 left_operand_first : run 1 0 (main_program (int_slot [] ∷ array_slot 2 [] ∷ int_slot [] ∷ []) (
-    set_to 0 (int 0) ∷ Clear 0 1
+    set_to 0 (int 0) ∷ Placed 0 (Clear 1)
     ∷ try_to (set_to 2 (Binary (Compute Add) (Binary (Compute Divide) (int 1) (var 0)) (Element (Local 1) 2 (Binary (Compute Subtract) (var 0) (int 1)))) ∷ [])
     (Catch 0 arith (block (send_public (int 1) ∷ [])) (on bounds (send_public (int 2) ∷ []))) ∷ [])) silence
     ≡ (pos 1 ∷ [], finished)
@@ -57,8 +57,8 @@ left_operand_first = refl
 
 -- the same with `a[z - 1] = 1 / z;` as the block: the value is evaluated before the range is tested
 value_before_range : run 1 0 (main_program (int_slot [] ∷ array_slot 2 [] ∷ []) (
-    set_to 0 (int 0) ∷ Clear 0 1
-    ∷ try_to (Store 0 (Local 1) 2 (Binary (Compute Subtract) (var 0) (int 1)) (Binary (Compute Divide) (int 1) (var 0)) ∷ [])
+    set_to 0 (int 0) ∷ Placed 0 (Clear 1)
+    ∷ try_to (Placed 0 (Store (Local 1) 2 (Binary (Compute Subtract) (var 0) (int 1)) (Binary (Compute Divide) (int 1) (var 0))) ∷ [])
     (Catch 0 arith (block (send_public (int 1) ∷ [])) (on bounds (send_public (int 2) ∷ []))) ∷ [])) silence
     ≡ (pos 1 ∷ [], finished)
 unfolding int_wrap
@@ -66,7 +66,7 @@ value_before_range = refl
 
 -- the first argument raises first, and before the call
 first_argument_first : run 1 0 (main_program (int_slot [] ∷ array_slot 1 [] ∷ []) (
-    try_to (Call 0 9 (Element (Local 1) 1 (int 1) ∷ Binary (Compute Divide) (int 1) (var 0) ∷ []) None ∷ [])
+    try_to (Placed 0 (Call 9 (Element (Local 1) 1 (int 1) ∷ Binary (Compute Divide) (int 1) (var 0) ∷ []) None) ∷ [])
     (Catch 0 arith (block (send_public (int 1) ∷ [])) (on bounds (send_public (int 2) ∷ []))) ∷ [])) silence
     ≡ (pos 2 ∷ [], finished)
 unfolding int_wrap
@@ -86,7 +86,7 @@ short_circuit = refl
 cleared_each_round : run 1 3 (main_program (array_slot 2 [] ∷ int_slot [] ∷ []) (
     set_to 1 (int 0)
     ∷ while_loop (Binary (Compare (Ordered LessThan)) (var 1) (int 3)) (
-    Clear 0 0 ∷ Store 0 (Local 0) 2 (var 1) (Binary (Compute Add) (Element (Local 0) 2 (int 0)) (int 5))
+    Placed 0 (Clear 0) ∷ Placed 0 (Store (Local 0) 2 (var 1) (Binary (Compute Add) (Element (Local 0) 2 (int 0)) (int 5)))
     ∷ send_public (Element (Local 0) 2 (var 1)) ∷ set_to 1 (Binary (Compute Add) (var 1) (int 1)) ∷ []) ∷ [])) silence
     ≡ (pos 5 ∷ pos 5 ∷ [], threw bounds)
 unfolding int_wrap
@@ -95,7 +95,7 @@ cleared_each_round = refl
 -- without the declaration in the loop the elements would stay
 elements_stay : run 1 2 (main_program (array_slot 1 [] ∷ int_slot [] ∷ []) (
     while_loop (Binary (Compare (Ordered LessThan)) (var 1) (int 2)) (
-    Store 0 (Local 0) 1 (int 0) (Binary (Compute Add) (Element (Local 0) 1 (int 0)) (int 5))
+    Placed 0 (Store (Local 0) 1 (int 0) (Binary (Compute Add) (Element (Local 0) 1 (int 0)) (int 5)))
     ∷ send_public (Element (Local 0) 1 (int 0)) ∷ set_to 1 (Binary (Compute Add) (var 1) (int 1)) ∷ []) ∷ [])) silence
     ≡ (pos 5 ∷ pos 10 ∷ [], finished)
 unfolding int_wrap
@@ -103,13 +103,13 @@ elements_stay = refl
 
 -- `x = receive s; send pub, x; x = receive s;` on s = 4: at the end of the input `End` is raised
 input_ends : run 1 0 (main_program (int_slot [] ∷ []) (
-    Receive 0 s_channel (Some (Local 0)) ∷ send_public (var 0) ∷ Receive 0 s_channel (Some (Local 0)) ∷ [])) (secret (pos 4 ∷ []))
+    Placed 0 (Receive s_channel (Some (Local 0))) ∷ send_public (var 0) ∷ Placed 0 (Receive s_channel (Some (Local 0))) ∷ [])) (secret (pos 4 ∷ []))
     ≡ (pos 4 ∷ [], threw end)
 unfolding int_wrap
 input_ends = refl
 
 -- an output has no input
-output_is_empty : run 1 0 (main_program (int_slot [] ∷ []) (Receive 0 pub_channel (Some (Local 0)) ∷ [])) (λ channel. pos 1 ∷ [])
+output_is_empty : run 1 0 (main_program (int_slot [] ∷ []) (Placed 0 (Receive pub_channel (Some (Local 0))) ∷ [])) (λ channel. pos 1 ∷ [])
     ≡ ([], threw end)
 unfolding int_wrap
 output_is_empty = refl
@@ -132,7 +132,7 @@ fuel_counted_anew = refl
 
 -- being out of fuel passes through a `try` and through what follows
 stop_is_not_caught : run 1 1 (main_program [] (
-    try_to (while_loop (Logical true) [] ∷ Leave 0 (Throw oops) ∷ []) (on oops (send_public (int 1) ∷ []))
+    try_to (while_loop (Logical true) [] ∷ Placed 0 (Leave (Throw oops)) ∷ []) (on oops (send_public (int 1) ∷ []))
     ∷ send_public (int 2) ∷ [])) silence ≡ ([], stopped OutOfFuel)
 unfolding int_wrap
 stop_is_not_caught = refl
@@ -140,8 +140,8 @@ stop_is_not_caught = refl
 -- `while (true) { if (i == 1) { i = i + 1; continue; } if (i == 3) { break; } send pub, i; i = i + 1; } send pub, 9;`
 break_and_continue : run 1 5 (main_program (int_slot [] ∷ []) (
     while_loop (Logical true) (
-    if_then (Binary (Compare (Matched Same)) (var 0) (int 1)) (set_to 0 (Binary (Compute Add) (var 0) (int 1)) ∷ Leave 0 Continue ∷ [])
-    ∷ if_then (Binary (Compare (Matched Same)) (var 0) (int 3)) (Leave 0 Break ∷ [])
+    if_then (Binary (Compare (Matched Same)) (var 0) (int 1)) (set_to 0 (Binary (Compute Add) (var 0) (int 1)) ∷ Placed 0 (Leave Continue) ∷ [])
+    ∷ if_then (Binary (Compare (Matched Same)) (var 0) (int 3)) (Placed 0 (Leave Break) ∷ [])
     ∷ send_public (var 0) ∷ set_to 0 (Binary (Compute Add) (var 0) (int 1)) ∷ [])
     ∷ send_public (int 9) ∷ [])) silence ≡ (pos 0 ∷ pos 2 ∷ pos 9 ∷ [], finished)
 unfolding int_wrap
@@ -150,21 +150,21 @@ break_and_continue = refl
 -- `try { try { throw Oops; } catch (Oops) { throw Oops; } } catch (Oops) { send pub, 1; }`: the exceptions of a handler leave its
 -- own `try`
 handler_raises : run 1 0 (main_program [] (
-    try_to (try_to (Leave 0 (Throw oops) ∷ []) (on oops (Leave 0 (Throw oops) ∷ [])) ∷ []) (on oops (send_public (int 1) ∷ []))
+    try_to (try_to (Placed 0 (Leave (Throw oops)) ∷ []) (on oops (Placed 0 (Leave (Throw oops)) ∷ [])) ∷ []) (on oops (send_public (int 1) ∷ []))
     ∷ [])) silence ≡ (pos 1 ∷ [], finished)
 unfolding int_wrap
 handler_raises = refl
 
 -- `try { try { throw Oops; } catch (Oops) { send pub, 1; } } catch (Oops) { send pub, 2; }`: the innermost handler takes it
 innermost_handler : run 1 0 (main_program [] (
-    try_to (try_to (Leave 0 (Throw oops) ∷ []) (on oops (send_public (int 1) ∷ [])) ∷ []) (on oops (send_public (int 2) ∷ []))
+    try_to (try_to (Placed 0 (Leave (Throw oops)) ∷ []) (on oops (send_public (int 1) ∷ [])) ∷ []) (on oops (send_public (int 2) ∷ []))
     ∷ [])) silence ≡ (pos 1 ∷ [], finished)
 unfolding int_wrap
 innermost_handler = refl
 
 -- of two handlers of one exception the first is taken, and one of another exception is passed over
 first_handler : run 1 0 (main_program [] (
-    try_to (Leave 0 (Throw oops) ∷ [])
+    try_to (Placed 0 (Leave (Throw oops)) ∷ [])
     (Catch 0 arith (block (send_public (int 1) ∷ []))
     (Catch 0 oops (block (send_public (int 2) ∷ []))
     (on oops (send_public (int 3) ∷ [])))) ∷ [])) silence ≡ (pos 2 ∷ [], finished)
@@ -175,8 +175,8 @@ first_handler = refl
 -- `void main() { try { f(n); } catch (Oops) { send pub, 2; } send pub, 1; }`
 recursive : Expression → Program
 recursive n = program (
-    procedure [] (try_to (Call 0 1 (n ∷ []) None ∷ []) (on oops (send_public (int 2) ∷ [])) ∷ send_public (int 1) ∷ [])
-    ∷ record (procedure (int_slot [] ∷ []) (if_then (positive (var 0)) (Call 0 1 (Binary (Compute Subtract) (var 0) (int 1) ∷ []) None ∷ []) ∷ []))
+    procedure [] (try_to (Placed 0 (Call 1 (n ∷ []) None) ∷ []) (on oops (send_public (int 2) ∷ [])) ∷ send_public (int 1) ∷ [])
+    ∷ record (procedure (int_slot [] ∷ []) (if_then (positive (var 0)) (Placed 0 (Call 1 (Binary (Compute Subtract) (var 0) (int 1) ∷ []) None) ∷ []) ∷ []))
     { parameters = 1; throws = thrown oops [] }
     ∷ [])
 
@@ -202,8 +202,8 @@ past_the_limit = refl
 -- `global int{} n = 2; void main() { send pub, n; n = n - 1; if (n > 0) { main(); } send pub, 9; }`
 main_calls_itself : run 3 0 (program_with (record { name = []; base = Int; size = None; label = []; first = Number (pos 2) } ∷ []) (
     procedure [] (
-    send_public (Read (Global 0)) ∷ Assign 0 (Global 0) (Binary (Compute Subtract) (Read (Global 0)) (int 1))
-    ∷ if_then (positive (Read (Global 0))) (Call 0 0 [] None ∷ [])
+    send_public (Read (Global 0)) ∷ Placed 0 (Assign (Global 0) (Binary (Compute Subtract) (Read (Global 0)) (int 1)))
+    ∷ if_then (positive (Read (Global 0))) (Placed 0 (Call 0 [] None) ∷ [])
     ∷ send_public (int 9) ∷ [])
     ∷ [])) silence ≡ (pos 2 ∷ pos 1 ∷ pos 9 ∷ pos 9 ∷ [], finished)
 unfolding int_wrap
@@ -213,10 +213,10 @@ main_calls_itself = refl
 -- caller's own slots are as before, and a value may be dropped
 returned_value : run 2 0 (program (
     procedure (int_slot [] ∷ int_slot [] ∷ []) (
-    set_to 0 (int 1) ∷ Call 0 1 (int 6 ∷ []) (Some (Local 1)) ∷ send_public (var 1) ∷ Call 0 1 (int 2 ∷ []) None
+    set_to 0 (int 1) ∷ Placed 0 (Call 1 (int 6 ∷ []) (Some (Local 1))) ∷ send_public (var 1) ∷ Placed 0 (Call 1 (int 2 ∷ []) None)
     ∷ send_public (var 0) ∷ [])
     ∷ record (procedure (int_slot [] ∷ []) (
-    set_to 0 (Binary (Compute Add) (var 0) (int 1)) ∷ ReturnWith 0 (Some (var 0)) ∷ send_public (int 5) ∷ []))
+    set_to 0 (Binary (Compute Add) (var 0) (int 1)) ∷ Placed 0 (ReturnWith (Some (var 0))) ∷ send_public (int 5) ∷ []))
     { parameters = 1; result = Some (record { base = Int; label = [] }) }
     ∷ [])) silence ≡ (pos 7 ∷ pos 1 ∷ [], finished)
 unfolding int_wrap

@@ -12,7 +12,7 @@ use Rattle.resolved.specs.declared.expression.Variable.TheVariants.{Global, Loca
 use Rattle.resolved.specs.declared.statement.Exit.{Exit}
 use Rattle.resolved.specs.declared.statement.Exit.TheVariants.{Normal, Return, Break, Continue, Throw}
 use Rattle.common.specs.declared.direction.Direction.TheVariants.{Input}
-use Rattle.resolved.specs.Tree.{Expression, Statement, Assign, Clear, Store, Receive, Send, Call, If, While, Leave, ReturnWith, Try, Nested, Block, Empty, Then, Handlers, NoMore, Catch}
+use Rattle.resolved.specs.Tree.{Expression, Statement, Placed, Assign, Clear, Store, Receive, Send, Call, If, While, Leave, ReturnWith, Try, Nested, Block, Empty, Then, Handlers, NoMore, Catch}
 use Rattle.resolved.specs.Program.{Program, ProcedureEntry, ResultEntry, SlotEntry}
 use Rattle.common.specs.Values.{kind_of, truth_in}
 use Rattle.resolved.specs.Value.{Evaluated, Yields, Raises, checked_index}
@@ -248,20 +248,20 @@ module _ (program : Program) (procedure : ProcedureEntry) (calls : Calls) (keep 
     pub statement_keeps : (statement : Statement) (s : SourceState) → StateFits program procedure s
         → statement_fits program procedure statement ≡ true
         → OutcomeFits program procedure Return procedure.result (statement_meaning calls k statement s)
-    statement_keeps (Assign at x e) s state h = assign_keeps x e s state h
-    statement_keeps (Clear at slot) s state h = record { state = cleared_fits program procedure s slot state; returned = tt }
-    statement_keeps (Store at array length index e) s state h =
+    statement_keeps (Placed at (Assign x e)) s state h = assign_keeps x e s state h
+    statement_keeps (Placed at (Clear slot)) s state h = record { state = cleared_fits program procedure s slot state; returned = tt }
+    statement_keeps (Placed at (Store array length index e)) s state h =
         store_keeps array length index e s state
         (and_parts (array_by (variable_type program procedure array) length (λ base. has_base program procedure base e)) _ h).0
-    statement_keeps (Receive at channel target) s state h =
+    statement_keeps (Placed at (Receive channel target)) s state h =
         received_fits program procedure (s.inputs channel) channel target s state
         (and_parts (channel_is (slice_get program.channels channel) Input) _ h).1 Return procedure.result
-    statement_keeps (Send at channel e) s state h =
+    statement_keeps (Placed at (Send channel e)) s state h =
         evaluated_fits program procedure Return procedure.result (value_of s e) s _ state (λ v _.
         record { state = sending_fits program procedure channel v s state; returned = tt })
-    statement_keeps (Call at f arguments target) s state h =
+    statement_keeps (Placed at (Call f arguments target)) s state h =
         call_keeps f (slice_get program.procedures f) arguments target s state refl h
-    statement_keeps (If at e then_block else_block) s state h =
+    statement_keeps (Placed at (If e then_block else_block)) s state h =
         let parts : (has_base program procedure Boolean e && block_fits program procedure then_block ≡ true)
         × (block_fits program procedure else_block ≡ true) =
         and_parts (has_base program procedure Boolean e && block_fits program procedure then_block) _ h in
@@ -269,18 +269,18 @@ module _ (program : Program) (procedure : ProcedureEntry) (calls : Calls) (keep 
         either_fits program procedure Return procedure.result (truth_in v) _ _
         (block_keeps then_block s state (and_parts (has_base program procedure Boolean e) _ parts.0).1)
         (block_keeps else_block s state parts.1))
-    statement_keeps (While at loop e body) s state h =
+    statement_keeps (Placed at (While loop e body)) s state h =
         fuel_fits program procedure Return procedure.result k (λ t. value_of t e) (block_meaning calls k body)
         (λ t fit. block_keeps body t fit (and_parts (has_base program procedure Boolean e) _ h).1) s state
-    statement_keeps (Leave at exit) s state h = record { state = state; returned = tt }
-    statement_keeps (ReturnWith at None) s state h = record { state = state; returned = tt }
-    statement_keeps (ReturnWith at (Some e)) s state h = return_keeps procedure.result e s state h
-    statement_keeps (Try at block handlers) s state h =
+    statement_keeps (Placed at (Leave exit)) s state h = record { state = state; returned = tt }
+    statement_keeps (Placed at (ReturnWith None)) s state h = record { state = state; returned = tt }
+    statement_keeps (Placed at (ReturnWith (Some e))) s state h = return_keeps procedure.result e s state h
+    statement_keeps (Placed at (Try block handlers)) s state h =
         let parts : (block_fits program procedure block ≡ true) × (handlers_fit program procedure handlers ≡ true) =
         and_parts (block_fits program procedure block) _ h in
         caught_fits program procedure Return procedure.result (block_meaning calls k block s) _ (block_keeps block s state parts.0)
         (λ exception t fit. handlers_keep handlers exception t fit parts.1)
-    statement_keeps (Nested at block) s state h = block_keeps block s state h
+    statement_keeps (Placed at (Nested block)) s state h = block_keeps block s state h
 
     pub block_keeps : (block : Block) (s : SourceState) → StateFits program procedure s → block_fits program procedure block ≡ true
         → OutcomeFits program procedure Return procedure.result (block_meaning calls k block s)

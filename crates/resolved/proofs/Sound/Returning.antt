@@ -6,7 +6,7 @@ use Rattle.common.specs.declared.value.Value.{Value}
 use Rattle.common.specs.declared.base_type.BaseType.TheVariants.{Boolean}
 use Rattle.resolved.specs.declared.expression.Variable.{Variable}
 use Rattle.resolved.specs.declared.statement.Exit.TheVariants.{Normal, Return, Break, Continue, Throw}
-use Rattle.resolved.specs.Tree.{Statement, Assign, Clear, Store, Receive, Send, Call, If, While, Leave, ReturnWith, Try, Nested, Block, Empty, Then, Handlers, NoMore, Catch}
+use Rattle.resolved.specs.Tree.{Statement, Placed, Assign, Clear, Store, Receive, Send, Call, If, While, Leave, ReturnWith, Try, Nested, Block, Empty, Then, Handlers, NoMore, Catch}
 use Rattle.resolved.specs.Program.{Program, ProcedureEntry, ResultEntry}
 use Rattle.common.specs.Values.{truth_in}
 use Rattle.resolved.specs.Value.{Evaluated, Yields, Raises, checked_index}
@@ -92,32 +92,32 @@ module _ (program : Program) (procedure : ProcedureEntry) (entry : ResultEntry) 
   mutual
     statement_some : (statement : Statement) (s : SourceState) → statement_fits program procedure statement ≡ true →
         ReturnsSome (statement_meaning (calls_with program k frames) k statement s)
-    statement_some (Assign at x e) s fit = evaluated_some (value_of s e) s _ (λ v. tt)
-    statement_some (Clear at slot) s fit = tt
-    statement_some (Store at array length index e) s fit =
+    statement_some (Placed at (Assign x e)) s fit = evaluated_some (value_of s e) s _ (λ v. tt)
+    statement_some (Placed at (Clear slot)) s fit = tt
+    statement_some (Placed at (Store array length index e)) s fit =
         evaluated_some (value_of s index) s _ (λ v. evaluated_some (value_of s e) s _ (λ w. evaluated_some (checked_index v length) s _ (λ i. tt)))
-    statement_some (Receive at channel target) s fit = received_some (s.inputs channel) channel target s
-    statement_some (Send at channel e) s fit = evaluated_some (value_of s e) s _ (λ v. tt)
-    statement_some (Call at f arguments target) s fit =
+    statement_some (Placed at (Receive channel target)) s fit = received_some (s.inputs channel) channel target s
+    statement_some (Placed at (Send channel e)) s fit = evaluated_some (value_of s e) s _ (λ v. tt)
+    statement_some (Placed at (Call f arguments target)) s fit =
         evaluated_some (values_of s arguments) s _ (λ values. returned_to_some target _ (calls_some program k frames f values s))
-    statement_some (If at e then_block else_block) s fit =
+    statement_some (Placed at (If e then_block else_block)) s fit =
         let parts = and_parts (has_base program procedure Boolean e && block_fits program procedure then_block) (block_fits program procedure else_block) fit in
         let first = and_parts (has_base program procedure Boolean e) (block_fits program procedure then_block) parts.0 in
         evaluated_some (value_of s e) s _ (λ v. either_some (truth_in v) _ _ (block_some then_block s first.1) (block_some else_block s parts.1))
-    statement_some (While at loop e body) s fit =
+    statement_some (Placed at (While loop e body)) s fit =
         let parts = and_parts (has_base program procedure Boolean e) (block_fits program procedure body) fit in
         fuel_some k (λ t. value_of t e) (block_meaning (calls_with program k frames) k body) (λ t. block_some body t parts.1) s
-    statement_some (Leave at Normal) s fit = tt
-    statement_some (Leave at Return) s fit = let no : false ≡ true = fit in absurd (cc)
-    statement_some (Leave at Break) s fit = tt
-    statement_some (Leave at Continue) s fit = tt
-    statement_some (Leave at (Throw exception)) s fit = tt
-    statement_some (ReturnWith at None) s fit = let no : false ≡ true = sym (ap is_none is) ∙ fit in absurd (cc)
-    statement_some (ReturnWith at (Some e)) s fit = evaluated_some (value_of s e) s _ (λ v. tt)
-    statement_some (Try at block handlers) s fit =
+    statement_some (Placed at (Leave Normal)) s fit = tt
+    statement_some (Placed at (Leave Return)) s fit = let no : false ≡ true = fit in absurd (cc)
+    statement_some (Placed at (Leave Break)) s fit = tt
+    statement_some (Placed at (Leave Continue)) s fit = tt
+    statement_some (Placed at (Leave (Throw exception))) s fit = tt
+    statement_some (Placed at (ReturnWith None)) s fit = let no : false ≡ true = sym (ap is_none is) ∙ fit in absurd (cc)
+    statement_some (Placed at (ReturnWith (Some e))) s fit = evaluated_some (value_of s e) s _ (λ v. tt)
+    statement_some (Placed at (Try block handlers)) s fit =
         let parts = and_parts (block_fits program procedure block) (handlers_fit program procedure handlers) fit in
         caught_some (block_meaning (calls_with program k frames) k block s) _ (block_some block s parts.0) (λ exception t. handlers_some handlers exception t parts.1)
-    statement_some (Nested at block) s fit = block_some block s fit
+    statement_some (Placed at (Nested block)) s fit = block_some block s fit
 
     pub block_some : (block : Block) (s : SourceState) → block_fits program procedure block ≡ true → ReturnsSome (block_meaning (calls_with program k frames) k block s)
     block_some Empty s fit = tt

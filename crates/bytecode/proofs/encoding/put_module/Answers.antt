@@ -1,6 +1,7 @@
 use Rattle.std.proofs.Common.{List, ap, subst, ◌++◌, ◌∙◌, ◌≡◌, ℕ}
 use Rattle.principals.specs.ActsFor.{PrincipalHierarchy}
-use Rattle.modules.specs.Contents.{ChannelContents, ProcedureContents}
+use Rattle.labels.specs.Channel.{ChannelContents}
+use Rattle.modules.specs.Contents.{ProcedureContents}
 use Rattle.modules.specs.declared.declaration.Global.{Global}
 use Rattle.modules.specs.Format.{version_number}
 use Rattle.bytecode.specs.Writing.{list_bytes, pair_bytes, text_bytes, channel_bytes, variable_bytes, procedure_bytes, number_bytes}

@@ -2,7 +2,7 @@ use Rattle.std.proofs.Common.{◌≡◌, ◌∙◌, Bool, ap, map, take}
 use Rattle.std.specs.Prelude.{option_map}
 use Rattle.std.proofs.lemmas.List.{take_all}
 use Rattle.labels.specs.Label.{may_read}
-use Rattle.modules.specs.Contents.{ChannelContents}
+use Rattle.labels.specs.Channel.{ChannelContents}
 use Rattle.channels.specs.View.{renumbered}
 use Rattle.channels.proofs.Views.{answers_are}
 use Rattle.channels.proofs.view.readable_channels.Goals as goal

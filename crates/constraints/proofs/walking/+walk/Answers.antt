@@ -39,74 +39,74 @@ walk_statement-returns-clause-added t c =
 -- statements without blocks
 pub walk_form-returns-in-Assign : goal.walk_form-returns-in-Assign
 walk_form-returns-in-Assign t c =
-    form-simple c.args.walk.now c.args.context c.around-around.result c.deref.result.now c.args.statement.now (T.Assign c.in-Assign.at c.in-Assign.variable (expression_of c.in-Assign.value)) c.args.progress.now _ c.add_valued.result
+    form-simple c.args.walk.now c.args.context c.around-around.result c.deref.result.now c.args.statement.now (T.Placed c.in-Assign.at (T.Assign c.in-Assign.variable (expression_of c.in-Assign.value))) c.args.progress.now _ c.add_valued.result
     (ap statement_of c.in-Assign.is) refl refl c.deref.ensures.value refl c.around-around.ensures.pc c.around-around.ensures.exit_unknowns
     (on_ok_weaker c.add_valued.result (λ valued n. subst (IsValued c.args.walk.now c.around-around.result (expression_of c.in-Assign.value) Normal c.args.progress.now.constraints.items c.add_valued.new.constraints.items) c.of_assignment-demand.ensures valued) c.add_valued.ensures)
 
 pub walk_form-returns-in-Clear : goal.walk_form-returns-in-Clear
 walk_form-returns-in-Clear t c =
-    form-simple c.args.walk.now c.args.context c.around-around.result c.deref.result.now c.args.statement.now (T.Clear c.in-Clear.at c.in-Clear.slot) c.args.progress.now _ c.add_clear.result
+    form-simple c.args.walk.now c.args.context c.around-around.result c.deref.result.now c.args.statement.now (T.Placed c.in-Clear.at (T.Clear c.in-Clear.slot)) c.args.progress.now _ c.add_clear.result
     (ap statement_of c.in-Clear.is) refl refl c.deref.ensures.value refl c.around-around.ensures.pc c.around-around.ensures.exit_unknowns c.add_clear.ensures
 
 pub walk_form-returns-in-Store : goal.walk_form-returns-in-Store
 walk_form-returns-in-Store t c =
-    form-simple c.args.walk.now c.args.context c.around-around.result c.deref.result.now c.args.statement.now (T.Store c.new-store.result.at c.new-store.result.array c.new-store.result.length (expression_of c.in-Store.index) (expression_of c.in-Store.value)) c.args.progress.now _ c.add_store.result
-    (ap statement_of c.in-Store.is ∙ ap (λ (x : ArrayStore). T.Store x.at x.array x.length (expression_of c.in-Store.index) (expression_of c.in-Store.value)) (sym c.new-store.ensures)) refl refl c.deref.ensures.value refl c.around-around.ensures.pc c.around-around.ensures.exit_unknowns c.add_store.ensures
+    form-simple c.args.walk.now c.args.context c.around-around.result c.deref.result.now c.args.statement.now (T.Placed c.new-store.result.at (T.Store c.new-store.result.array c.new-store.result.length (expression_of c.in-Store.index) (expression_of c.in-Store.value))) c.args.progress.now _ c.add_store.result
+    (ap statement_of c.in-Store.is ∙ ap (λ (x : ArrayStore). T.Placed x.at (T.Store x.array x.length (expression_of c.in-Store.index) (expression_of c.in-Store.value))) (sym c.new-store.ensures)) refl refl c.deref.ensures.value refl c.around-around.ensures.pc c.around-around.ensures.exit_unknowns c.add_store.ensures
 
 pub walk_form-returns-in-Receive : goal.walk_form-returns-in-Receive
 walk_form-returns-in-Receive t c =
-    form-simple c.args.walk.now c.args.context c.around-around.result c.deref.result.now c.args.statement.now (T.Receive c.in-Receive.at c.in-Receive.channel c.in-Receive.target) c.args.progress.now _ c.add_receive.result
+    form-simple c.args.walk.now c.args.context c.around-around.result c.deref.result.now c.args.statement.now (T.Placed c.in-Receive.at (T.Receive c.in-Receive.channel c.in-Receive.target)) c.args.progress.now _ c.add_receive.result
     (ap statement_of c.in-Receive.is) refl refl c.deref.ensures.value refl c.around-around.ensures.pc c.around-around.ensures.exit_unknowns c.add_receive.ensures
 
 pub walk_form-returns-in-Send : goal.walk_form-returns-in-Send
 walk_form-returns-in-Send t c =
-    form-simple c.args.walk.now c.args.context c.around-around.result c.deref.result.now c.args.statement.now (T.Send c.in-Send.at c.in-Send.channel (expression_of c.in-Send.value)) c.args.progress.now _ c.add_valued-in-Send.result
+    form-simple c.args.walk.now c.args.context c.around-around.result c.deref.result.now c.args.statement.now (T.Placed c.in-Send.at (T.Send c.in-Send.channel (expression_of c.in-Send.value))) c.args.progress.now _ c.add_valued-in-Send.result
     (ap statement_of c.in-Send.is) refl refl c.deref.ensures.value refl c.around-around.ensures.pc c.around-around.ensures.exit_unknowns
     (on_ok_weaker c.add_valued-in-Send.result (λ valued n. subst (IsValued c.args.walk.now c.around-around.result (expression_of c.in-Send.value) Normal c.args.progress.now.constraints.items c.add_valued-in-Send.new.constraints.items) c.of_send-demand.ensures valued) c.add_valued-in-Send.ensures)
 
 pub walk_form-returns-in-Leave : goal.walk_form-returns-in-Leave
 walk_form-returns-in-Leave t c =
-    form-simple c.args.walk.now c.args.context c.around-around.result c.deref.result.now c.args.statement.now (T.Leave c.in-Leave.at c.in-Leave.exit) c.args.progress.now _ c.add_leave.result
+    form-simple c.args.walk.now c.args.context c.around-around.result c.deref.result.now c.args.statement.now (T.Placed c.in-Leave.at (T.Leave c.in-Leave.exit)) c.args.progress.now _ c.add_leave.result
     (ap statement_of c.in-Leave.is) refl refl c.deref.ensures.value refl c.around-around.ensures.pc c.around-around.ensures.exit_unknowns c.add_leave.ensures
 
 pub walk_form-returns-in-Return : goal.walk_form-returns-in-Return
 walk_form-returns-in-Return t c =
-    form-simple c.args.walk.now c.args.context c.around-around.result c.deref.result.now c.args.statement.now (T.ReturnWith c.in-Return.at (some_expression_of c.in-Return.value)) c.args.progress.now _ c.add_return.result
+    form-simple c.args.walk.now c.args.context c.around-around.result c.deref.result.now c.args.statement.now (T.Placed c.in-Return.at (T.ReturnWith (some_expression_of c.in-Return.value))) c.args.progress.now _ c.add_return.result
     (ap statement_of c.in-Return.is) refl refl c.deref.ensures.value refl c.around-around.ensures.pc c.around-around.ensures.exit_unknowns c.add_return.ensures
 
 -- a call
 pub walk_form-returns-in-Call : goal.walk_form-returns-in-Call
 walk_form-returns-in-Call t c =
-    form-by c.args.walk.now c.args.context c.args.statement.now (T.Call c.new-site.result.at c.new-site.result.callee (map expression_of c.deref-in-Call.result.now) c.new-site.result.target) c.args.progress.now _
-    c.walk_call.result (ap statement_of c.in-Call.is ∙ ap (λ xs. T.Call c.in-Call.at c.in-Call.callee (map expression_of xs) c.in-Call.target) (sym c.deref-in-Call.ensures.value)
-    ∙ ap (λ (x : CallSite). T.Call x.at x.callee (map expression_of c.deref-in-Call.result.now) x.target) (sym c.new-site.ensures)) c.walk_call.ensures
+    form-by c.args.walk.now c.args.context c.args.statement.now (T.Placed c.new-site.result.at (T.Call c.new-site.result.callee (map expression_of c.deref-in-Call.result.now) c.new-site.result.target)) c.args.progress.now _
+    c.walk_call.result (ap statement_of c.in-Call.is ∙ ap (λ xs. T.Placed c.in-Call.at (T.Call c.in-Call.callee (map expression_of xs) c.in-Call.target)) (sym c.deref-in-Call.ensures.value)
+    ∙ ap (λ (x : CallSite). T.Placed x.at (T.Call x.callee (map expression_of c.deref-in-Call.result.now) x.target)) (sym c.new-site.ensures)) c.walk_call.ensures
 
 -- forms with blocks
 pub walk_form-returns-in-If : goal.walk_form-returns-in-If
 walk_form-returns-in-If t c =
     on_ok_weaker c.walk_if.result
     (λ walked. form-at c.args.walk.now.table.now.core.now c.args.walk.now.table.now.core.now.labels (entries_of c.args.walk.now.map.now) c.args.walk.now.procedure
-    c.args.statement.now (T.If c.in-If.field-0 (expression_of c.in-If.condition) (block_of c.deref-in-If.result.now) (block_of c.deref-in-If-2.result.now)) c.args.context.pc c.args.context.exit_unknowns.now c.args.progress.now _
+    c.args.statement.now (T.Placed c.in-If.field-0 (T.If (expression_of c.in-If.condition) (block_of c.deref-in-If.result.now) (block_of c.deref-in-If-2.result.now))) c.args.context.pc c.args.context.exit_unknowns.now c.args.progress.now _
     (tree-if c.args.statement.now c.in-If.field-0 c.in-If.condition c.in-If.then_block c.in-If.else_block c.deref-in-If.result.now c.deref-in-If-2.result.now c.in-If.is c.deref-in-If.ensures.value c.deref-in-If-2.ensures.value) (walked c.in-If.field-0))
     c.walk_if.ensures
 
 pub walk_form-returns-in-While : goal.walk_form-returns-in-While
 walk_form-returns-in-While t c =
-    form-by c.args.walk.now c.args.context c.args.statement.now (T.While c.new-site-in-While.result.at c.new-site-in-While.result.number (expression_of c.in-While.condition) (block_of c.deref-in-While.result.now)) c.args.progress.now _
+    form-by c.args.walk.now c.args.context c.args.statement.now (T.Placed c.new-site-in-While.result.at (T.While c.new-site-in-While.result.number (expression_of c.in-While.condition) (block_of c.deref-in-While.result.now))) c.args.progress.now _
     c.walk_while.result (tree-while c.args.statement.now c.in-While.at c.in-While.number c.in-While.condition c.in-While.body c.deref-in-While.result.now c.in-While.is c.deref-in-While.ensures.value
-    ∙ ap (λ (x : LoopSite). T.While x.at x.number (expression_of c.in-While.condition) (block_of c.deref-in-While.result.now)) (sym c.new-site-in-While.ensures)) c.walk_while.ensures
+    ∙ ap (λ (x : LoopSite). T.Placed x.at (T.While x.number (expression_of c.in-While.condition) (block_of c.deref-in-While.result.now))) (sym c.new-site-in-While.ensures)) c.walk_while.ensures
 
 pub walk_form-returns-in-Try : goal.walk_form-returns-in-Try
 walk_form-returns-in-Try t c =
     on_ok_weaker c.walk_try.result
     (λ walked. form-at c.args.walk.now.table.now.core.now c.args.walk.now.table.now.core.now.labels (entries_of c.args.walk.now.map.now) c.args.walk.now.procedure
-    c.args.statement.now (T.Try c.in-Try.field-0 (block_of c.deref-in-Try.result.now) (handlers_of c.deref-in-Try-2.result.now)) c.args.context.pc c.args.context.exit_unknowns.now c.args.progress.now _
+    c.args.statement.now (T.Placed c.in-Try.field-0 (T.Try (block_of c.deref-in-Try.result.now) (handlers_of c.deref-in-Try-2.result.now))) c.args.context.pc c.args.context.exit_unknowns.now c.args.progress.now _
     (tree-try c.args.statement.now c.in-Try.field-0 c.in-Try.block c.in-Try.handlers c.deref-in-Try.result.now c.deref-in-Try-2.result.now c.in-Try.is c.deref-in-Try.ensures.value c.deref-in-Try-2.ensures.value) (walked c.in-Try.field-0))
     c.walk_try.ensures
 
 pub walk_form-returns-in-Nested : goal.walk_form-returns-in-Nested
 walk_form-returns-in-Nested t c =
-    form-by c.args.walk.now c.args.context c.args.statement.now (T.Nested c.in-Nested.field-0 (block_of c.deref-in-Nested.result.now)) c.args.progress.now _
+    form-by c.args.walk.now c.args.context c.args.statement.now (T.Placed c.in-Nested.field-0 (T.Nested (block_of c.deref-in-Nested.result.now))) c.args.progress.now _
     c.walk_block.result (tree-nested c.args.statement.now c.in-Nested.field-0 c.in-Nested.block c.deref-in-Nested.result.now c.in-Nested.is c.deref-in-Nested.ensures.value) c.walk_block.ensures
 
 pub walk_if-returns : goal.walk_if-returns
@@ -255,7 +255,7 @@ walk_form-walk_if-requires t c =
 pub walk_form-walk_while-requires : goal.walk_form-walk_while-requires
 walk_form-walk_while-requires t c =
     let tree = tree-while c.args.statement.now c.in-While.at c.in-While.number c.in-While.condition c.in-While.body c.deref-in-While.result.now c.in-While.is c.deref-in-While.ensures.value
-    ∙ ap (λ (x : LoopSite). T.While x.at x.number (expression_of c.in-While.condition) (block_of c.deref-in-While.result.now)) (sym c.new-site-in-While.ensures) in (
+    ∙ ap (λ (x : LoopSite). T.Placed x.at (T.While x.number (expression_of c.in-While.condition) (block_of c.deref-in-While.result.now))) (sym c.new-site-in-While.ensures) in (
       omega (arith, ap statement_nodes tree),
       form-ready-at c.args.walk.now.table.now.core.now (entries_of c.args.walk.now.map.now) c.args.walk.now.procedure c.args.statement.now _ c.args.context.exit_unknowns.now c.args.progress.now tree c.requires,
     )
@@ -346,17 +346,17 @@ walk_handlers-walk_block-requires t c =
 pub walk_form-walk_call-requires : goal.walk_form-walk_call-requires
 walk_form-walk_call-requires t c =
     form-room c.args.walk.now.table.now.core.now c.args.walk.now.table.now.core.now.labels (entries_of c.args.walk.now.map.now) c.args.walk.now.procedure c.args.context.exit_unknowns.now
-    (T.Call c.in-Call.at c.in-Call.callee (map expression_of c.deref-in-Call.result.now) c.in-Call.target) 1 c.args.progress.now
+    (T.Placed c.in-Call.at (T.Call c.in-Call.callee (map expression_of c.deref-in-Call.result.now) c.in-Call.target)) 1 c.args.progress.now
     (form-ready-at c.args.walk.now.table.now.core.now (entries_of c.args.walk.now.map.now) c.args.walk.now.procedure c.args.statement.now _ c.args.context.exit_unknowns.now c.args.progress.now
-    (ap statement_of c.in-Call.is ∙ ap (λ xs. T.Call c.in-Call.at c.in-Call.callee (map expression_of xs) c.in-Call.target) (sym c.deref-in-Call.ensures.value)) c.requires)
+    (ap statement_of c.in-Call.is ∙ ap (λ xs. T.Placed c.in-Call.at (T.Call c.in-Call.callee (map expression_of xs) c.in-Call.target)) (sym c.deref-in-Call.ensures.value)) c.requires)
     (omega arith)
 
 pub walk_if-begin_branch-requires : goal.walk_if-begin_branch-requires
 walk_if-begin_branch-requires t c =
     form-room c.args.walk.now.table.now.core.now c.args.walk.now.table.now.core.now.labels (entries_of c.args.walk.now.map.now) c.args.walk.now.procedure c.args.context.exit_unknowns.now
-    (T.If 0 (expression_of c.args.condition.now) (block_of c.args.then_block.now) (block_of c.args.else_block.now)) 1 c.args.progress.now c.requires (omega arith)
+    (T.Placed 0 (T.If (expression_of c.args.condition.now) (block_of c.args.then_block.now) (block_of c.args.else_block.now))) 1 c.args.progress.now c.requires (omega arith)
 
 pub walk_while-begin_loop-requires : goal.walk_while-begin_loop-requires
 walk_while-begin_loop-requires t c =
     form-room c.args.walk.now.table.now.core.now c.args.walk.now.table.now.core.now.labels (entries_of c.args.walk.now.map.now) c.args.walk.now.procedure c.args.context.exit_unknowns.now
-    (T.While c.args.site.at c.args.site.number (expression_of c.args.condition.now) (block_of c.args.body.now)) 2 c.args.progress.now c.requires (omega arith)
+    (T.Placed c.args.site.at (T.While c.args.site.number (expression_of c.args.condition.now) (block_of c.args.body.now))) 2 c.args.progress.now c.requires (omega arith)

@@ -2,11 +2,12 @@ use Rattle.std.proofs.Common.{◌≡◌, refl, ap, ℕ, zero, suc, List, [], tru
 use Rattle.std.specs.Int.{int_wrap}
 use Rattle.common.specs.declared.sent.Pair.{Pair}
 use Rattle.labels.specs.Sent.{pairs_for}
+use Rattle.labels.proofs.Tests.{may_read-decides}
 use Rattle.resolved.specs.declared.expression.Variable.TheVariants.{Local}
 use Rattle.common.specs.declared.operator.Operator.TheVariants.{Compare}
 use Rattle.common.specs.declared.operator.Comparison.TheVariants.{Ordered}
 use Rattle.common.specs.declared.operator.Order.TheVariants.{GreaterThan}
-use Rattle.resolved.specs.Tree.{Integer, Read, Binary, Assign, Receive, Send, Try, Empty, Then, NoMore, Catch}
+use Rattle.resolved.specs.Tree.{Integer, Read, Binary, Placed, Assign, Receive, Send, Try, Empty, Then, NoMore, Catch}
 use Rattle.resolved.specs.Program.{procedure_at}
 use Rattle.common.specs.declared.exceptions.TheConstants.{END}
 use Rattle.resolved.specs.SourceState.{SourceState, value_of}
@@ -24,8 +25,9 @@ pub returns-clause-labelled : goal.returns-clause-labelled
 returns-clause-labelled c = labelled-from waiting (λ unwritten. for_alice) refl
 
 pub returns-clause-agree : goal.returns-clause-agree
-returns-clause-agree c zero within is_input reads = let e : false ≡ true = reads in absurd (cc)
-returns-clause-agree c (suc channel) within is_input reads = refl
+returns-clause-agree c zero channel there input reads =
+    let e : false ≡ true = (may_read-decides two_principals bob (channel_label waiting 0)).1 reads in absurd (cc)
+returns-clause-agree c (suc n) channel there input reads = refl
 
 pub returns-clause-all : goal.returns-clause-all
 unfolding frame_limit int_wrap
@@ -36,13 +38,13 @@ returns-clause-all c (suc k) = refl
 reached : (k : ℕ) → SourceState
 reached k =
     state_after (block_meaning (calls_with waiting k 511) k
-    (Then (Assign 0 (Local 0) (Integer 0)) (Then (Try 0 (Then (Receive 0 0 (Some (Local 0))) Empty) (Catch 0 END Empty NoMore)) Empty))
+    (Then (Placed 0 (Assign (Local 0) (Integer 0))) (Then (Placed 0 (Try (Then (Placed 0 (Receive 0 (Some (Local 0)))) Empty) (Catch 0 END Empty NoMore))) Empty))
     (entering (procedure_at waiting 0) [] (first_state waiting (comes (pos 1)))))
 
 seen_from : (k : ℕ) → Outcome → List Pair
 seen_from k o =
     pairs_for two_principals (channel_label waiting) bob
-    (state_after (leaving (λ t. record t { locals = λ n. [] }) (after o (block_meaning (calls_with waiting k 511) k (Then (Send 0 1 (Integer 1)) Empty))))).sent
+    (state_after (leaving (λ t. record t { locals = λ n. [] }) (after o (block_meaning (calls_with waiting k 511) k (Then (Placed 0 (Send 1 (Integer 1))) Empty))))).sent
 
 pub returns-clause-nothing : goal.returns-clause-nothing
 unfolding frame_limit int_wrap reached seen_from

@@ -2,7 +2,8 @@ use Rattle.std.proofs.Common.{◌≡◌, ◌∙◌, ◌^◌, ◌<◌, ℕ, List,
 use Rattle.std.specs.String.{string_bytes}
 use Rattle.modules.specs.ContentsOf.{contents_of}
 use Rattle.principals.specs.ActsFor.{PrincipalHierarchy}
-use Rattle.modules.specs.Contents.{ChannelContents, ProcedureContents, ModuleContents}
+use Rattle.labels.specs.Channel.{ChannelContents}
+use Rattle.modules.specs.Contents.{ProcedureContents, ModuleContents}
 use Rattle.modules.specs.declared.declaration.Global.{Global}
 use Rattle.modules.specs.Code.{code_length}
 use Rattle.modules.specs.ByteFormat.{Fits}

@@ -6,7 +6,7 @@ use Rattle.resolved.specs.CoreOf.{program_of}
 use Rattle.resolved.specs.Program.{GlobalEntry}
 use Rattle.resolved.specs.ProgramOf.{channel_entry, global_entry}
 use Rattle.lowering.specs.Fitting.{IsShortValue}
-use Rattle.lowering.specs.Interface.{channel_contents, global_contents}
+use Rattle.lowering.specs.Interface.{global_contents}
 use Rattle.lowering.proofs.FittingFile.{graphs-fit}
 use Rattle.lowering.proofs.Inside.{graphs-positioned}
 use Rattle.lowering.proofs.Wholes.{graph-made}
@@ -19,7 +19,7 @@ new-requires c =
     c.module_version.ensures
     c.in_ok-hierarchy_of.ensures
     (c.in_ok-copy_names.ensures ∙ ap (map (λ name. string_bytes name)) c.deref.ensures.value)
-    (c.in_ok-channels_of.ensures ∙ ap (λ l. map channel_contents (map (channel_entry c.args.core.now.labels) l)) c.deref-2.ensures.value)
+    (c.in_ok-channels_of.ensures ∙ ap (λ l. map (channel_entry c.args.core.now.labels) l) c.deref-2.ensures.value)
     (c.in_ok-globals_of.ensures.exact c.args.core.now.labels ∙ ap (λ l. map global_contents (map (global_entry c.args.core.now.labels) l)) c.deref-3.ensures.value)
     c.in_ok-procedures_of.ensures))
     (record {
@@ -35,6 +35,6 @@ returns c =
     c.module_version.ensures
     c.in_ok-hierarchy_of.ensures
     (c.in_ok-copy_names.ensures ∙ ap (map (λ name. string_bytes name)) c.deref.ensures.value)
-    (c.in_ok-channels_of.ensures ∙ ap (λ l. map channel_contents (map (channel_entry c.args.core.now.labels) l)) c.deref-2.ensures.value)
+    (c.in_ok-channels_of.ensures ∙ ap (λ l. map (channel_entry c.args.core.now.labels) l) c.deref-2.ensures.value)
     (c.in_ok-globals_of.ensures.exact c.args.core.now.labels ∙ ap (λ l. map global_contents (map (global_entry c.args.core.now.labels) l)) c.deref-3.ensures.value)
     c.in_ok-procedures_of.ensures

@@ -138,13 +138,13 @@ walk_block-returns-clause-found t c =
 pub walk_form-returns-in_ok-go_on-in-Assign-clause-found : goal.walk_form-returns-in_ok-go_on-in-Assign-clause-found
 walk_form-returns-in_ok-go_on-in-Assign-clause-found t c =
     let value = expression_of c.in-Assign.value in
-    found-at (program_of c.args.walk.now.core.now) c.args.statement.now (T.Assign c.in-Assign.field-0 c.in-Assign.field-1 value) (ap statement_of c.in-Assign.is)
+    found-at (program_of c.args.walk.now.core.now) c.args.statement.now (T.Placed c.in-Assign.field-0 (T.Assign c.in-Assign.field-1 value)) (ap statement_of c.in-Assign.is)
     c.args.table.now c.args.table.now (members c.args.raised.now) (members c.go_on.new.raised) c.in_ok-go_on-in-Assign.field-0
     (c.in_ok-go_on-in-Assign.ensures.found (raises value) c.raises_of.ensures c.args.table.now)
 
 pub walk_form-returns-in_ok-go_on-in-Clear-clause-found : goal.walk_form-returns-in_ok-go_on-in-Clear-clause-found
 walk_form-returns-in_ok-go_on-in-Clear-clause-found t c =
-    found-at (program_of c.args.walk.now.core.now) c.args.statement.now (T.Clear c.in-Clear.field-0 c.in-Clear.field-1) (ap statement_of c.in-Clear.is)
+    found-at (program_of c.args.walk.now.core.now) c.args.statement.now (T.Placed c.in-Clear.field-0 (T.Clear c.in-Clear.field-1)) (ap statement_of c.in-Clear.is)
     c.args.table.now c.args.table.now (members c.args.raised.now) (members c.go_on-in-Clear.new.raised) c.in_ok-go_on-in-Clear.field-0
     (c.in_ok-go_on-in-Clear.ensures.found [] (λ e. refl) c.args.table.now)
 
@@ -152,41 +152,41 @@ pub walk_form-returns-in_ok-go_on-in-Store-clause-found : goal.walk_form-returns
 walk_form-returns-in_ok-go_on-in-Store-clause-found t c =
     let index = expression_of c.in-Store.index in
     let value = expression_of c.in-Store.value in
-    found-at (program_of c.args.walk.now.core.now) c.args.statement.now (T.Store c.in-Store.field-0 c.in-Store.field-1 c.in-Store.length index value) (ap statement_of c.in-Store.is)
+    found-at (program_of c.args.walk.now.core.now) c.args.statement.now (T.Placed c.in-Store.field-0 (T.Store c.in-Store.field-1 c.in-Store.length index value)) (ap statement_of c.in-Store.is)
     c.args.table.now c.args.table.now (members c.args.raised.now) (members c.go_on-in-Store.new.raised) c.in_ok-go_on-in-Store.field-0
     (c.in_ok-go_on-in-Store.ensures.found (raises index ++ raises value ++ index_raises index c.in-Store.length) c.raises_of_store.ensures c.args.table.now)
 
 pub walk_form-returns-in_ok-receive-in-Receive-clause-found : goal.walk_form-returns-in_ok-receive-in-Receive-clause-found
 walk_form-returns-in_ok-receive-in-Receive-clause-found t c =
-    found-at (program_of c.args.walk.now.core.now) c.args.statement.now (T.Receive c.in-Receive.field-0 c.in-Receive.field-1 c.in-Receive.field-2) (ap statement_of c.in-Receive.is)
+    found-at (program_of c.args.walk.now.core.now) c.args.statement.now (T.Placed c.in-Receive.field-0 (T.Receive c.in-Receive.field-1 c.in-Receive.field-2)) (ap statement_of c.in-Receive.is)
     c.args.table.now c.args.table.now (members c.args.raised.now) (members c.receive.new.raised) c.in_ok-receive-in-Receive.field-0
     (c.in_ok-receive-in-Receive.ensures.found c.args.table.now)
 
 pub walk_form-returns-in_ok-go_on-in-Send-clause-found : goal.walk_form-returns-in_ok-go_on-in-Send-clause-found
 walk_form-returns-in_ok-go_on-in-Send-clause-found t c =
     let value = expression_of c.in-Send.value in
-    found-at (program_of c.args.walk.now.core.now) c.args.statement.now (T.Send c.in-Send.field-0 c.in-Send.field-1 value) (ap statement_of c.in-Send.is)
+    found-at (program_of c.args.walk.now.core.now) c.args.statement.now (T.Placed c.in-Send.field-0 (T.Send c.in-Send.field-1 value)) (ap statement_of c.in-Send.is)
     c.args.table.now c.args.table.now (members c.args.raised.now) (members c.go_on-in-Send.new.raised) c.in_ok-go_on-in-Send.field-0
     (c.in_ok-go_on-in-Send.ensures.found (raises value) c.raises_of-in-Send.ensures c.args.table.now)
 
 pub walk_form-returns-in_ok-call-in-Call-clause-found : goal.walk_form-returns-in_ok-call-in-Call-clause-found
 walk_form-returns-in_ok-call-in-Call-clause-found t c =
     let arguments = map expression_of c.deref.result.now in
-    found-at (program_of c.args.walk.now.core.now) c.args.statement.now (T.Call c.in-Call.field-0 c.in-Call.callee arguments c.in-Call.field-3)
-    (ap statement_of c.in-Call.is ∙ ap (λ list. T.Call c.in-Call.field-0 c.in-Call.callee (map expression_of list) c.in-Call.field-3) (sym c.deref.ensures.value))
+    found-at (program_of c.args.walk.now.core.now) c.args.statement.now (T.Placed c.in-Call.field-0 (T.Call c.in-Call.callee arguments c.in-Call.field-3))
+    (ap statement_of c.in-Call.is ∙ ap (λ list. T.Placed c.in-Call.field-0 (T.Call c.in-Call.callee (map expression_of list) c.in-Call.field-3)) (sym c.deref.ensures.value))
     c.args.table.now c.args.table.now (members c.args.raised.now) (members c.call.new.raised) c.in_ok-call-in-Call.field-0
     (c.in_ok-call-in-Call.ensures.found (flat_map raises arguments) c.raises_of_all.ensures c.args.table.now)
 
 pub walk_form-returns-in_ok-leave-in-Leave-clause-found : goal.walk_form-returns-in_ok-leave-in-Leave-clause-found
 walk_form-returns-in_ok-leave-in-Leave-clause-found t c =
-    found-at (program_of c.args.walk.now.core.now) c.args.statement.now (T.Leave c.in-Leave.field-0 c.in-Leave.exit) (ap statement_of c.in-Leave.is)
+    found-at (program_of c.args.walk.now.core.now) c.args.statement.now (T.Placed c.in-Leave.field-0 (T.Leave c.in-Leave.exit)) (ap statement_of c.in-Leave.is)
     c.args.table.now c.args.table.now (members c.args.raised.now) (members c.leave.new.raised) c.in_ok-leave-in-Leave.field-0
     (c.in_ok-leave-in-Leave.ensures.found c.args.table.now)
 
 pub walk_form-returns-in_ok-give_back-in-Return-clause-found : goal.walk_form-returns-in_ok-give_back-in-Return-clause-found
 walk_form-returns-in_ok-give_back-in-Return-clause-found t c =
     let value = some_expression_of c.in-Return.value in
-    found-at (program_of c.args.walk.now.core.now) c.args.statement.now (T.ReturnWith c.in-Return.field-0 value) (ap statement_of c.in-Return.is)
+    found-at (program_of c.args.walk.now.core.now) c.args.statement.now (T.Placed c.in-Return.field-0 (T.ReturnWith value)) (ap statement_of c.in-Return.is)
     c.args.table.now c.args.table.now (members c.args.raised.now) (members c.give_back.new.raised) c.in_ok-give_back-in-Return.field-0
     (return-found (program_of c.args.walk.now.core.now) c.in-Return.field-0 value c.args.table.now c.args.table.now (members c.args.raised.now) (members c.give_back.new.raised) c.in_ok-give_back-in-Return.field-0
     (c.in_ok-give_back-in-Return.ensures.found (raises_some value) c.raises_of_some.ensures c.args.table.now))
@@ -198,7 +198,7 @@ walk_form-returns-in_ok-no-in-If-clause-found t c =
     let test = expression_of c.in-If.condition in
     let then_block = block_of c.deref-in-If.result.now in
     let else_block = block_of c.deref-in-If-2.result.now in
-    found-at program c.args.statement.now (T.If c.in-If.field-0 test then_block else_block)
+    found-at program c.args.statement.now (T.Placed c.in-If.field-0 (T.If test then_block else_block))
     (tree-if c.args.statement.now c.in-If.field-0 c.in-If.condition c.in-If.then_block c.in-If.else_block c.deref-in-If.result.now c.deref-in-If-2.result.now c.in-If.is c.deref-in-If.ensures.value c.deref-in-If-2.ensures.value)
     c.args.table.now c.walk_block-in-If.new.table (members c.args.raised.now) (members c.walk_block-in-If.new.raised) c.join-in-If.result
     (if-found program c.in-If.field-0 test then_block else_block c.args.table.now c.walk_block.new.table c.walk_block-in-If.new.table
@@ -211,7 +211,7 @@ walk_form-returns-in_ok-no-in-If-clause-accepted t c =
     let program = program_of c.args.walk.now.core.now in
     let then_block = block_of c.deref-in-If.result.now in
     let else_block = block_of c.deref-in-If-2.result.now in
-    faults-at program c.args.statement.now (T.If c.in-If.field-0 (expression_of c.in-If.condition) then_block else_block)
+    faults-at program c.args.statement.now (T.Placed c.in-If.field-0 (T.If (expression_of c.in-If.condition) then_block else_block))
     (tree-if c.args.statement.now c.in-If.field-0 c.in-If.condition c.in-If.then_block c.in-If.else_block c.deref-in-If.result.now c.deref-in-If-2.result.now c.in-If.is c.deref-in-If.ensures.value c.deref-in-If-2.ensures.value)
     c.args.in_loop
     (none-both (block_faults program c.args.in_loop true then_block) (block_faults program c.args.in_loop true else_block) c.in_ok-yes-in-If.ensures.accepted c.in_ok-no-in-If.ensures.accepted)
@@ -220,7 +220,7 @@ pub walk_form-returns-in_err-yes-in-If-clause-first_fault : goal.walk_form-retur
 walk_form-returns-in_err-yes-in-If-clause-first_fault t c =
     let program = program_of c.args.walk.now.core.now in
     let first : IfRefused (IsFirstEndFault (inner_faults program c.args.in_loop (statement_of c.args.statement.now))) c.in_err-yes-in-If.field-0.0 =
-    first-at program c.args.statement.now (T.If c.in-If.field-0 (expression_of c.in-If.condition) (block_of c.deref-in-If.result.now) (block_of c.in-If.else_block.items))
+    first-at program c.args.statement.now (T.Placed c.in-If.field-0 (T.If (expression_of c.in-If.condition) (block_of c.deref-in-If.result.now) (block_of c.in-If.else_block.items)))
     (tree-if c.args.statement.now c.in-If.field-0 c.in-If.condition c.in-If.then_block c.in-If.else_block c.deref-in-If.result.now c.in-If.else_block.items c.in-If.is c.deref-in-If.ensures.value refl)
     c.args.in_loop c.in_err-yes-in-If.field-0.0
     (first-left (block_faults program c.args.in_loop true (block_of c.deref-in-If.result.now)) (block_faults program c.args.in_loop true (block_of c.in-If.else_block.items)) c.in_err-yes-in-If.field-0.0
@@ -233,7 +233,7 @@ walk_form-returns-in_err-no-in-If-clause-first_fault t c =
     let then_block = block_of c.deref-in-If.result.now in
     let else_block = block_of c.deref-in-If-2.result.now in
     let first : IfRefused (IsFirstEndFault (inner_faults program c.args.in_loop (statement_of c.args.statement.now))) c.in_err-no-in-If.field-0.0 =
-    first-at program c.args.statement.now (T.If c.in-If.field-0 (expression_of c.in-If.condition) then_block else_block)
+    first-at program c.args.statement.now (T.Placed c.in-If.field-0 (T.If (expression_of c.in-If.condition) then_block else_block))
     (tree-if c.args.statement.now c.in-If.field-0 c.in-If.condition c.in-If.then_block c.in-If.else_block c.deref-in-If.result.now c.deref-in-If-2.result.now c.in-If.is c.deref-in-If.ensures.value c.deref-in-If-2.ensures.value)
     c.args.in_loop c.in_err-no-in-If.field-0.0
     (first-right (block_faults program c.args.in_loop true then_block) (block_faults program c.args.in_loop true else_block) c.in_err-no-in-If.field-0.0
@@ -246,7 +246,7 @@ walk_form-returns-in_ok-body-in-While-clause-found t c =
     let program = program_of c.args.walk.now.core.now in
     let test = expression_of c.in-While.condition in
     let body = block_of c.deref-in-While.result.now in
-    found-at program c.args.statement.now (T.While c.in-While.field-0 c.in-While.field-1 test body)
+    found-at program c.args.statement.now (T.Placed c.in-While.field-0 (T.While c.in-While.field-1 test body))
     (tree-while c.args.statement.now c.in-While.field-0 c.in-While.field-1 c.in-While.condition c.in-While.body c.deref-in-While.result.now c.in-While.is c.deref-in-While.ensures.value)
     c.args.table.now c.walk_block-in-While.new.table (members c.args.raised.now) (members c.walk_block-in-While.new.raised) c.of_loop.result
     (while-found program c.in-While.field-0 c.in-While.field-1 test body c.args.table.now c.walk_block-in-While.new.table
@@ -256,7 +256,7 @@ walk_form-returns-in_ok-body-in-While-clause-found t c =
 
 pub walk_form-returns-in_ok-body-in-While-clause-accepted : goal.walk_form-returns-in_ok-body-in-While-clause-accepted
 walk_form-returns-in_ok-body-in-While-clause-accepted t c =
-    faults-at (program_of c.args.walk.now.core.now) c.args.statement.now (T.While c.in-While.field-0 c.in-While.field-1 (expression_of c.in-While.condition) (block_of c.deref-in-While.result.now))
+    faults-at (program_of c.args.walk.now.core.now) c.args.statement.now (T.Placed c.in-While.field-0 (T.While c.in-While.field-1 (expression_of c.in-While.condition) (block_of c.deref-in-While.result.now)))
     (tree-while c.args.statement.now c.in-While.field-0 c.in-While.field-1 c.in-While.condition c.in-While.body c.deref-in-While.result.now c.in-While.is c.deref-in-While.ensures.value)
     c.args.in_loop c.in_ok-body-in-While.ensures.accepted
 
@@ -264,7 +264,7 @@ pub walk_form-returns-in_err-body-in-While-clause-first_fault : goal.walk_form-r
 walk_form-returns-in_err-body-in-While-clause-first_fault t c =
     let program = program_of c.args.walk.now.core.now in
     let first : IfRefused (IsFirstEndFault (inner_faults program c.args.in_loop (statement_of c.args.statement.now))) c.in_err-body-in-While.field-0.0 =
-    first-at program c.args.statement.now (T.While c.in-While.field-0 c.in-While.field-1 (expression_of c.in-While.condition) (block_of c.deref-in-While.result.now))
+    first-at program c.args.statement.now (T.Placed c.in-While.field-0 (T.While c.in-While.field-1 (expression_of c.in-While.condition) (block_of c.deref-in-While.result.now)))
     (tree-while c.args.statement.now c.in-While.field-0 c.in-While.field-1 c.in-While.condition c.in-While.body c.deref-in-While.result.now c.in-While.is c.deref-in-While.ensures.value)
     c.args.in_loop c.in_err-body-in-While.field-0.0 c.in_err-body-in-While.ensures.first_fault in
     search (rules, first)
@@ -275,7 +275,7 @@ walk_form-returns-in_ok-unite-in-Try-clause-found t c =
     let program = program_of c.args.walk.now.core.now in
     let block = block_of c.deref-in-Try.result.now in
     let handlers = handlers_of c.deref-in-Try-2.result.now in
-    found-at program c.args.statement.now (T.Try c.in-Try.field-0 block handlers)
+    found-at program c.args.statement.now (T.Placed c.in-Try.field-0 (T.Try block handlers))
     (tree-try c.args.statement.now c.in-Try.field-0 c.in-Try.block c.in-Try.handlers c.deref-in-Try.result.now c.deref-in-Try-2.result.now c.in-Try.is c.deref-in-Try.ensures.value c.deref-in-Try-2.ensures.value)
     c.args.table.now c.walk_handlers.new.table (members c.args.raised.now) (members c.unite.new.self) c.join-in-Try.result
     (try-is-found program c.in-Try.field-0 block handlers c.args.table.now c.walk_block-in-Try.new.table (members c.new-inner.result) (members c.walk_block-in-Try.new.raised) c.in_ok-tried-in-Try.tried
@@ -289,7 +289,7 @@ walk_form-returns-in_ok-unite-in-Try-clause-accepted t c =
     let program = program_of c.args.walk.now.core.now in
     let block = block_of c.deref-in-Try.result.now in
     let handlers = handlers_of c.deref-in-Try-2.result.now in
-    faults-at program c.args.statement.now (T.Try c.in-Try.field-0 block handlers)
+    faults-at program c.args.statement.now (T.Placed c.in-Try.field-0 (T.Try block handlers))
     (tree-try c.args.statement.now c.in-Try.field-0 c.in-Try.block c.in-Try.handlers c.deref-in-Try.result.now c.deref-in-Try-2.result.now c.in-Try.is c.deref-in-Try.ensures.value c.deref-in-Try-2.ensures.value)
     c.args.in_loop
     (none-both (block_faults program c.args.in_loop true block) (handlers_faults program c.args.in_loop (block_exits program block) handlers) c.in_ok-tried-in-Try.ensures.accepted
@@ -303,7 +303,7 @@ walk_form-returns-in_err-tried-in-Try-clause-first_fault t c =
     let block = block_of c.deref-in-Try.result.now in
     let handlers = handlers_of c.in-Try.handlers.items in
     let first : IfRefused (IsFirstEndFault (inner_faults program c.args.in_loop (statement_of c.args.statement.now))) c.in_err-tried-in-Try.field-0.0 =
-    first-at program c.args.statement.now (T.Try c.in-Try.field-0 block handlers)
+    first-at program c.args.statement.now (T.Placed c.in-Try.field-0 (T.Try block handlers))
     (tree-try c.args.statement.now c.in-Try.field-0 c.in-Try.block c.in-Try.handlers c.deref-in-Try.result.now c.in-Try.handlers.items c.in-Try.is c.deref-in-Try.ensures.value refl)
     c.args.in_loop c.in_err-tried-in-Try.field-0.0
     (first-left (block_faults program c.args.in_loop true block) (handlers_faults program c.args.in_loop (block_exits program block) handlers) c.in_err-tried-in-Try.field-0.0
@@ -316,7 +316,7 @@ walk_form-returns-in_err-handled-in-Try-clause-first_fault t c =
     let block = block_of c.deref-in-Try.result.now in
     let handlers = handlers_of c.deref-in-Try-2.result.now in
     let first : IfRefused (IsFirstEndFault (inner_faults program c.args.in_loop (statement_of c.args.statement.now))) c.in_err-handled-in-Try.field-0.0 =
-    first-at program c.args.statement.now (T.Try c.in-Try.field-0 block handlers)
+    first-at program c.args.statement.now (T.Placed c.in-Try.field-0 (T.Try block handlers))
     (tree-try c.args.statement.now c.in-Try.field-0 c.in-Try.block c.in-Try.handlers c.deref-in-Try.result.now c.deref-in-Try-2.result.now c.in-Try.is c.deref-in-Try.ensures.value c.deref-in-Try-2.ensures.value)
     c.args.in_loop c.in_err-handled-in-Try.field-0.0
     (first-right (block_faults program c.args.in_loop true block) (handlers_faults program c.args.in_loop (block_exits program block) handlers) c.in_err-handled-in-Try.field-0.0
@@ -335,7 +335,7 @@ walk_form-returns-in-Nested-clause-found t c =
     (λ x. IsFound (block_exits program block) (block_paths program block) c.args.table.now c.walk_block-in-Nested.new.table (members c.args.raised.now) (members c.walk_block-in-Nested.new.raised) x)
     (λ x. IsFound (statement_exits program (statement_of c.args.statement.now)) (inner_paths program (statement_of c.args.statement.now)) c.args.table.now c.walk_block-in-Nested.new.table (members c.args.raised.now) (members c.walk_block-in-Nested.new.raised) x)
     (λ x found.
-    found-at program c.args.statement.now (T.Nested c.in-Nested.field-0 block)
+    found-at program c.args.statement.now (T.Placed c.in-Nested.field-0 (T.Nested block))
     (tree-nested c.args.statement.now c.in-Nested.field-0 c.in-Nested.block c.deref-in-Nested.result.now c.in-Nested.is c.deref-in-Nested.ensures.value)
     c.args.table.now c.walk_block-in-Nested.new.table (members c.args.raised.now) (members c.walk_block-in-Nested.new.raised) x found)
     c.walk_block-in-Nested.ensures.found
@@ -346,7 +346,7 @@ walk_form-returns-in-Nested-clause-accepted t c =
     let block = block_of c.deref-in-Nested.result.now in
     on_ok_weaker c.walk_block-in-Nested.result
     (λ (none : block_faults program c.args.in_loop true block ≡ []).
-    faults-at program c.args.statement.now (T.Nested c.in-Nested.field-0 block)
+    faults-at program c.args.statement.now (T.Placed c.in-Nested.field-0 (T.Nested block))
     (tree-nested c.args.statement.now c.in-Nested.field-0 c.in-Nested.block c.deref-in-Nested.result.now c.in-Nested.is c.deref-in-Nested.ensures.value)
     c.args.in_loop none)
     c.walk_block-in-Nested.ensures.accepted
@@ -359,7 +359,7 @@ walk_form-returns-in-Nested-clause-first_fault t c =
     (λ fault. IfRefused (IsFirstEndFault (block_faults program c.args.in_loop true block)) fault)
     (λ fault. IfRefused (IsFirstEndFault (inner_faults program c.args.in_loop (statement_of c.args.statement.now))) fault)
     (λ fault first.
-    first-at program c.args.statement.now (T.Nested c.in-Nested.field-0 block)
+    first-at program c.args.statement.now (T.Placed c.in-Nested.field-0 (T.Nested block))
     (tree-nested c.args.statement.now c.in-Nested.field-0 c.in-Nested.block c.deref-in-Nested.result.now c.in-Nested.is c.deref-in-Nested.ensures.value)
     c.args.in_loop fault first)
     c.walk_block-in-Nested.ensures.first_fault

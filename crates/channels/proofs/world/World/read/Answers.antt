@@ -1,5 +1,5 @@
 use Rattle.std.proofs.Common.{◌∙◌, ap, subst, ◌≡◌, ℕ, List, map, filter}
-use Rattle.modules.specs.Contents.{ChannelContents}
+use Rattle.labels.specs.Channel.{ChannelContents}
 use Rattle.channels.specs.Table.{table_of}
 use Rattle.channels.specs.World.{input_names, is_input}
 use Rattle.channels.specs.WorldText.{IsWorldText, input_of, lines_of, table_after, texts_of}

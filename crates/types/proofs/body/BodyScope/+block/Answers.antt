@@ -5,7 +5,7 @@ use Rattle.syntax.proofs.Rows.{if_is, if_else_is, while_is, try_is, nested_is}
 use Rattle.syntax.specs.Nodes.{statement_nodes}
 use Rattle.syntax.specs.Tree.{TryTree, block_tree, catch_tree, catches_of, expression_tree, if_tree, statement_tree, statements_of}
 use Rattle.resolved.proofs.Views.{statement_of_if, statement_of_while, statement_of_try, statement_of_nested}
-use Rattle.resolved.specs.Tree.{If}
+use Rattle.resolved.specs.Tree.{Placed, If}
 use Rattle.resolved.specs.TreeOf.{expression_of, block_of, handlers_of, statement_of}
 use Rattle.common.specs.Answers.{IfRefused}
 use Rattle.types.specs.Finding.{IsRefusalOf}
@@ -132,7 +132,7 @@ resolve_if-returns-clause-made t c =
     let after = c.resolve_block.new.self in
     if_done (setting_of before) (point_of before) c.args.at (expression_tree c.args.condition.now) (expression_of c.in_ok-condition.condition) c.in_ok-condition.ensures
     (block_tree c.args.accepted.now) (point_of after) (block_of c.in_ok-accepted.accepted.items) c.in_ok-accepted.ensures.made
-    ∙ ap (λ one. Ok (point_of after, one)) (ap (λ list. If c.args.at (expression_of c.in_ok-condition.condition) (block_of c.in_ok-accepted.accepted.items) (block_of list)) (sym c.new.ensures.items)
+    ∙ ap (λ one. Ok (point_of after, one)) (ap (λ list. Placed c.args.at (If (expression_of c.in_ok-condition.condition) (block_of c.in_ok-accepted.accepted.items) (block_of list))) (sym c.new.ensures.items)
     ∙ sym (statement_of_if c.args.at c.in_ok-condition.condition c.in_ok-accepted.accepted c.new.result))
 
 pub resolve_if-returns-clause-grows : goal.resolve_if-returns-clause-grows
