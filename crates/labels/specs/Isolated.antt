@@ -18,15 +18,14 @@ WorldsAgree h label_of channels p first second =
     (k : ℕ) (channel : ChannelContents) → slice_get channels k ≡ Some channel → channel.direction ≡ Input
     → MayRead h p (label_of k) → first k ≡ second k
 
--- runs are isolated: for every principal, all worlds that agree for it and any two numbers of steps, of what it sees of the one run
--- and of the other one is a prefix of the other
+-- runs are isolated: for every principal, all worlds that agree for it and any two numbers of steps, or bounds on the rounds of loops,
+-- of what it sees of the one run and of the other one is a prefix of the other
 abbrev pub RunsAreIsolated : PrincipalHierarchy → (ℕ → Label) → List ChannelContents → (sent : (ℕ → List ℤ) → ℕ → List Pair) → Type 0
 RunsAreIsolated h label_of channels sent =
     (p : ℕ) (first second : ℕ → List ℤ) → WorldsAgree h label_of channels p first second → (i j : ℕ) (seen other : List Pair)
     → Sees h label_of p (sent first i) seen → Sees h label_of p (sent second j) other → IsPrefix seen other ⊎ IsPrefix other seen
 
--- runs stay isolated: under every hierarchy that contains the one of their labels, to which these are carried over by names, and so under
--- their own too
+-- runs stay isolated: under every hierarchy that contains the one of their labels, to which these are carried over by names
 abbrev pub RunsStayIsolated : PrincipalHierarchy → (ℕ → Label) → List ChannelContents → (sent : (ℕ → List ℤ) → ℕ → List Pair) → Type 0
 RunsStayIsolated own label_of channels sent = (h : PrincipalHierarchy) → IsHierarchy h → ContainsHierarchy h own
     → RunsAreIsolated h (λ k. label_under own h (label_of k)) channels sent

@@ -15,7 +15,7 @@ use Rattle.modules.specs.Machine.{after_steps, sent_after, sent_of}
 abbrev pub channel_label : ModuleContents → ℕ → Label
 channel_label m k = option_map_or (λ channel. channel.label) (slice_get m.channels k) []
 
--- a module that stays isolated, whatever its runs take in steps
+-- a module that stays isolated, by what it has sent after any number of steps
 abbrev pub StaysIsolated : ModuleContents → Type 0
 StaysIsolated m = RunsStayIsolated m.hierarchy (channel_label m) m.channels (λ world n. sent_of (after_steps m world n))
 
